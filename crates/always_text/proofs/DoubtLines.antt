@@ -76,7 +76,8 @@ reply_count zero = refl
 reply_count (suc n) = refl
 
 given_few : {f : Fault} (ds : List Doubt) {lent lent' : List ℕ} {r : AlwaysReply}
-    → GivesList always_reply_of (always_refusal f 0) (bytes_of doubt_bytes ds) (length ds) lent lent' r
+    → GivesList always_reply_of (always_refusal f 0) (bytes_of doubt_bytes ds) (length ds) lent
+    lent' r
     → 4 * r.count ≤ length lent
 given_few ds (fits h e p) =
     counted e (omega (arith, reply_count (length ds), bytes_length doubt_bytes 4 (λ a. refl) ds))

@@ -24,7 +24,8 @@ pub data Shown (dis : Display) (g : Rules) (w : Word) (one one' two two' : List 
     (r : TreesReply) : Type 0 where
   -- none: both memories 0
   treeless : NoTree g 0 w
-      → r ≡ trees_reply_of Answer.None 0 0 0 → one' ≡ filled dis one none → two' ≡ filled dis two none
+      → r ≡ trees_reply_of Answer.None 0 0 0 → one' ≡ filled dis one none
+      → two' ≡ filled dis two none
       → Shown dis g w one one' two two' r
   -- one: the first tree, and the second memory 0
   single : {t : Tree} → OneTree g 0 w → FirstTree g 0 w t → dis.number t ≤ row_room one

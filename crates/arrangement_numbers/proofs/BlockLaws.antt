@@ -86,7 +86,8 @@ module _ (s n : ℕ) (small : s < 2 ^ 64) where
   -- the numbers of all that share cs's first b cells
   module _ (b : ℕ) (cs : List Cell) (h : b ≤ n) {ds : List Cell} (k : Candidate (Among s) n ds)
       (e : Shares b ds cs) where
-    split : number_in s n ds ≡ least s n b cs + number_from (ones s) (place_in s) n (largest_step_of b)
+    split : number_in s n ds ≡ least s n b cs + number_from (ones s) (place_in s) n
+        (largest_step_of b)
         (drop b ds)
     split =
         let q = number_split (ones s) (place_in s) n 0 b ds (omega (arith, k.arranged.size)) in

@@ -35,7 +35,8 @@ unfolding first_of_share
 begins_more M p i h = omega (arith, suc-mul i (M / p))
 
 -- the others have M ÷ p
-pub begins_else : (M p i : ℕ) → M % p ≤ i → first_of_share M p (suc i) ≡ first_of_share M p i + M / p
+pub begins_else : (M p i : ℕ) → M % p ≤ i
+    → first_of_share M p (suc i) ≡ first_of_share M p i + M / p
 unfolding first_of_share
 begins_else M p i h = omega (arith, suc-mul i (M / p))
 
@@ -47,7 +48,8 @@ begins_le M p i = go (dec_lt i (M % p))
     go (no l) = omega (arith, begins_else M p i (omega arith))
 
 pub begins_mono : (M p i j : ℕ) → i ≤ j → first_of_share M p i ≤ first_of_share M p j
-begins_mono M p i j h = le_ind (λ (m : ℕ). first_of_share M p i ≤ first_of_share M p m) (omega arith)
+begins_mono M p i j h =
+    le_ind (λ (m : ℕ). first_of_share M p i ≤ first_of_share M p m) (omega arith)
     (λ m l v. omega (arith, v, begins_le M p m)) j h
 
 -- the last share ends with M
@@ -163,7 +165,8 @@ module _ (g : Rules) (small : (x : ℕ) → Terminal g x → x < 64) where
       earlier = earlier;
     }
       where
-        y : LowestIn g n (first_of_share (total g n) (p n) i) (first_of_share (total g n) (p n) (suc i))
+        y : LowestIn g n (first_of_share (total g n) (p n) i)
+            (first_of_share (total g n) (p n) (suc i))
             cs
         y = subst (Reports g n (p n) i) e (right n i l h)
 

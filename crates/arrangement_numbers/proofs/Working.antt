@@ -114,7 +114,8 @@ module _ (s n : ℕ) (small : s < 2 ^ 64) (few : Few s n) where
   room_end i e = let q : n - i ≡ 0 = omega arith in rw q
 
   capacity_two : (i j : ℕ) → 0 < i
-      → capacity (ones s) (place_in s) n (largest_step_of i) j ≡ capacity (ones s) (place_in s) n 2 j
+      → capacity (ones s) (place_in s) n (largest_step_of i) j
+      ≡ capacity (ones s) (place_in s) n 2 j
   capacity_two zero j h = absurd (omega arith)
   capacity_two (suc i) j h = refl
 

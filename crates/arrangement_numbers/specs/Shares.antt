@@ -1,5 +1,5 @@
--- The arrangements of one length divided among p racks, and what a share reports: 02, "The sweep
--- divided among racks".
+-- The arrangements of one length divided among p racks, and what a share reports: docs/FORMAT.md,
+-- "Calls and lent memory".
 use Rattle.std.specs.Prelude.{List, ℕ, suc, ◌+◌, ◌*◌, ◌/◌, ◌%◌, ◌≤◌, ◌<◌, min}
 use Rattle.std.proofs.Math.Option.{Option, none, some}
 use Rattle.grammar.specs.declared.Cell.{Cell}

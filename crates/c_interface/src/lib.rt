@@ -57,12 +57,7 @@ pub fn teplonga_trees(
 
 // The sweep: its code times 2^32 plus the line's number. `found` gets the answer's sentence and the
 // number of candidates tried.
-pub fn teplonga_sweep(
-    rules: &[u8],
-    bound: usize,
-    words: &mut [u64],
-    found: &mut [u64],
-) -> u64
+pub fn teplonga_sweep(rules: &[u8], bound: usize, words: &mut [u64], found: &mut [u64]) -> u64
     ensures { SweepWord (rule_sheet rules.now) bound words.old
         words.new found.old found.new result }
 {
@@ -84,12 +79,7 @@ pub fn teplonga_refused_line<'a>(rules: &'a [u8], tokens: &'a [u8], line: &mut &
 
 // The row counts: the verdict's code times 2^32 plus the line's number. The words get the span
 // sheet, `counts` the row counts.
-pub fn teplonga_rows(
-    rules: &[u8],
-    tokens: &[u8],
-    words: &mut [u64],
-    counts: &mut [u64],
-) -> u64
+pub fn teplonga_rows(rules: &[u8], tokens: &[u8], words: &mut [u64], counts: &mut [u64]) -> u64
     ensures { RowsWord rules.now tokens.now words.old
         words.new counts.old counts.new result }
 {
@@ -183,11 +173,7 @@ pub fn teplonga_expand(clauses: &[u8], sheet: &mut [u8], count: &mut [u64]) -> u
 
 // The refused line itself, as a part of the sheet that holds it. An exported function returns no
 // reference, so `line` gets the part.
-pub fn teplonga_clause_refused_line<'a>(
-    clauses: &'a [u8],
-    tokens: &'a [u8],
-    line: &mut &'a [u8],
-)
+pub fn teplonga_clause_refused_line<'a>(clauses: &'a [u8], tokens: &'a [u8], line: &mut &'a [u8])
     ensures { Hands clauses.entry tokens.entry line.new
         (held_by (clause_sheet clauses.now) (token_sheet tokens.now)) }
 {
@@ -287,12 +273,7 @@ pub fn teplonga_merge(
 
 // The verdicts of some choice of columns: the answer's code times 2^32 plus the line's number.
 // `found` gets the three flags, 1 or 0 each; the words that the search needed end 0.
-pub fn teplonga_columns(
-    rules: &[u8],
-    ranges: &[u8],
-    words: &mut [u64],
-    found: &mut [u64],
-) -> u64
+pub fn teplonga_columns(rules: &[u8], ranges: &[u8], words: &mut [u64], found: &mut [u64]) -> u64
     ensures { ColumnsWord rules.now ranges.now words.old
         words.new found.old found.new result }
 {
@@ -305,11 +286,7 @@ pub fn teplonga_columns(
 
 // The refused line itself, as a part of the sheet that holds it. An exported function returns no
 // reference, so `line` gets the part.
-pub fn teplonga_columns_refused_line<'a>(
-    rules: &'a [u8],
-    ranges: &'a [u8],
-    line: &mut &'a [u8],
-)
+pub fn teplonga_columns_refused_line<'a>(rules: &'a [u8], ranges: &'a [u8], line: &mut &'a [u8])
     ensures { Hands rules.entry ranges.entry line.new
         (held_by (rule_sheet rules.now) (range_sheet ranges.now)) }
 {
@@ -318,12 +295,7 @@ pub fn teplonga_columns_refused_line<'a>(
 
 // The test: the code of clear, unknown or a refusal times 2^32 plus the line's number. `list` gets
 // the entries, `count` their number; the words end 0.
-pub fn teplonga_always(
-    rules: &[u8],
-    words: &mut [u64],
-    list: &mut [u8],
-    count: &mut [u64],
-) -> u64
+pub fn teplonga_always(rules: &[u8], words: &mut [u64], list: &mut [u8], count: &mut [u64]) -> u64
     ensures { AlwaysWord (rule_sheet rules.now) words.old
         words.new list.old list.new count.old
         count.new result }

@@ -26,7 +26,8 @@ told_of e = ap (λ (z : AlwaysReply). z.told) e
 
 listed : {given : Reading Rules} {g : Rules} {f : Fault} {lent lent' : List ℕ} {r : AlwaysReply}
     → given ≡ accepted g → (ds : List Doubt) → AllDoubts g ds
-    → GivesList always_reply_of (always_refusal f 0) (bytes_of doubt_bytes ds) (length ds) lent lent' r
+    → GivesList always_reply_of (always_refusal f 0) (bytes_of doubt_bytes ds) (length ds) lent
+    lent' r
     → AlwaysMeans given r
 listed e ds a (large h x p) = Meaning.refusing (told_of x)
 listed e [] a (fits h x p) = clear e (passes_clear ((doubts_empty a).0 refl)) (told_of x)

@@ -16,7 +16,8 @@ use Rattle.call_always.specs.Always.{AlwaysBy}
 use Rattle.call_always.specs.Replying.{replied, DoubtsTold}
 
 -- the words that a call changed, and then cleared
-pub all_emptied : (m : ℕ) {ws ws' ws'' : List ℕ} → m ≤ length ws → Past m ws ws' → Cleared ws' ws'' m
+pub all_emptied : (m : ℕ) {ws ws' ws'' : List ℕ} → m ≤ length ws → Past m ws ws'
+    → Cleared ws' ws'' m
     → ws'' ≡ replicate m 0 ++ drop m ws
 all_emptied m {ws} {ws'} {ws''} h p c =
     sym (take-append-drop m ws'')

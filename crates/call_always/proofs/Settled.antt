@@ -28,7 +28,8 @@ same_list : {f h : Fault} {ds es : List Doubt} {lent l : List ℕ} {r : AlwaysRe
 same_list {lent = lent} {l} {r} q e x =
     transport
     (λ i.
-    GivesList always_reply_of (always_refusal (q i) 0) (bytes_of doubt_bytes (e i)) (length (e i)) lent
+    GivesList always_reply_of (always_refusal (q i) 0) (bytes_of doubt_bytes (e i)) (length (e i))
+    lent
     l r)
     x
 

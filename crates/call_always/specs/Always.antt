@@ -33,11 +33,13 @@ emptied words = replicate always_words 0 ++ drop always_words words
 pub data AlwaysOn (g : Rules) (words words' list list' : List ℕ) (r : AlwaysReply) : Type 0 where
   -- fewer words than the tables need: nothing changes
   short : {f : Fault} → length words < always_words → number_of f ≡ 21
-      → r ≡ always_refusal f 0 → words' ≡ words → list' ≡ list → AlwaysOn g words words' list list' r
+      → r ≡ always_refusal f 0 → words' ≡ words → list' ≡ list
+      → AlwaysOn g words words' list list' r
   -- all doubts, four bytes an entry, or refusal 22 where they do not fit
   listing : {ds : List Doubt} {f : Fault} → always_words ≤ length words → AllDoubts g ds
       → number_of f ≡ 22
-      → GivesList always_reply_of (always_refusal f 0) (bytes_of doubt_bytes ds) (length ds) list list' r
+      → GivesList always_reply_of (always_refusal f 0) (bytes_of doubt_bytes ds) (length ds) list
+      list' r
       → words' ≡ emptied words → AlwaysOn g words words' list list' r
 
 -- what a call answers where the sheet with the rules gives this, and what it leaves of the lent

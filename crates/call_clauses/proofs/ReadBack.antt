@@ -34,10 +34,12 @@ use Rattle.lines.specs.RuleLines.{rule_of_of, rule_fields, rule_line_of}
 use Rattle.lines.specs.Keys.{key_of}
 use Rattle.lines.specs.declared.Turn.{Turn}
 use Rattle.lines.proofs.KeyLaws.{Forward, key_alike}
-use Rattle.rule_text.specs.RuleText.{unary_lay_of, binary_lay_of, dash, clause_text, rule_text_of, rules_text}
+use Rattle.rule_text.specs.RuleText.{unary_lay_of, binary_lay_of, dash, clause_text, rule_text_of}
+use Rattle.rule_text.specs.RuleText.{rules_text}
 use Rattle.sheets.specs.Items.{Step, next, stop, accepted, refused, step_at_of, on_step, items_from}
 use Rattle.sheets.specs.Items.{with_names}
-use Rattle.sheets.specs.RuleSheets.{has_key, any_of, rule_said_of, rule_step, finish, rules_from, rule_names}
+use Rattle.sheets.specs.RuleSheets.{has_key, any_of, rule_said_of, rule_step, finish, rules_from}
+use Rattle.sheets.specs.RuleSheets.{rule_names}
 use Rattle.sheets.specs.RuleSheets.{rule_sheet}
 use Rattle.sheets.proofs.Accepted.{GoodRules, finish_good}
 use Rattle.call_clauses.specs.Expand.{sheet_text}
@@ -73,7 +75,8 @@ number_is none n e = absurd (clash cc)
 
 abbrev plain : ℕ → Bool
 plain n = is_number (numeral_of (decimal n)) n
-    && (not (same_bytes (decimal n) (45 ∷ [])) && (is_free 10 (decimal n) && is_free 32 (decimal n)))
+    && (not (same_bytes (decimal n) (45 ∷ []))
+    && (is_free 10 (decimal n) && is_free 32 (decimal n)))
 
 abbrev below : ℕ → (ℕ → Bool) → Bool
 below zero f = true
@@ -348,7 +351,8 @@ binary_line l a b m h j k =
       free = row_line (decimal l) (66 ∷ []) (decimal a) (decimal b) w f kind g s z;
       text = ap (λ (y : List ℕ). field l ++ (66 ∷ 32 ∷ (field a ++ (field b ++ y)))) (binary_lay m)
           ∙ row_text (decimal l) (decimal a) (decimal b) w 66;
-      says = ap rule_fields (row_fields (decimal l) (66 ∷ []) (decimal a) (decimal b) w f kind g s z)
+      says = ap rule_fields (row_fields (decimal l) (66 ∷ []) (decimal a) (decimal b) w f kind g s
+          z)
           ∙ (λ i. heard Kind.B ((plain_below l h).number i) ((plain_below a j).operand i)
           ((plain_below b k).operand i) (lay_of w)) ∙ binary_heard l a b m h j k;
     }
@@ -462,7 +466,8 @@ names_free = free_of 10 rule_names refl
 names_same : same_bytes rule_names rule_names ≡ true
 names_same = refl
 
-pub reads_back : (g : Rules) → GoodRules g → Every Legible g → rule_sheet (sheet_text g) ≡ accepted g
+pub reads_back : (g : Rules) → GoodRules g → Every Legible g
+    → rule_sheet (sheet_text g) ≡ accepted g
 reads_back g x h =
     names_read rule_names (rules_text g) (rows g h) names_free names_same (rules_pieces g h)
     (rows_some g h)

@@ -26,8 +26,10 @@ Same a b c d r s = (r ≡ s) × ((a ≡ b) × (c ≡ d))
 
 same_list : {a b : Answer} {f h : Fault} {es fs : List Entry} {lent l : List ℕ} {r : PlacesReply}
     → a ≡ b → f ≡ h → es ≡ fs
-    → GivesList (places_reply_of a) (places_refusal f 0) (bytes_of entry_bytes es) (length es) lent l r
-    → GivesList (places_reply_of b) (places_refusal h 0) (bytes_of entry_bytes fs) (length fs) lent l
+    → GivesList (places_reply_of a) (places_refusal f 0) (bytes_of entry_bytes es) (length es) lent
+    l r
+    → GivesList (places_reply_of b) (places_refusal h 0) (bytes_of entry_bytes fs) (length fs) lent
+    l
     r
 same_list {lent = lent} {l} {r} p q e x =
     transport (λ i. GivesList (places_reply_of (p i)) (places_refusal (q i) 0)

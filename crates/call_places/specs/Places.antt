@@ -32,7 +32,8 @@ pub data PlacesOn (g : Rules) (w : Word) (words words' list list' : List ℕ) (r
   -- and the span sheet filled
   listing : {a : Answer} {f : Fault} {es : List Entry} → AnswerHolds a g w → AllPlaces g w es
       → number_of f ≡ 22
-      → GivesList (places_reply_of a) (places_refusal f 0) (bytes_of entry_bytes es) (length es) list
+      → GivesList (places_reply_of a) (places_refusal f 0) (bytes_of entry_bytes es) (length es)
+      list
       list' r → SheetFilled g w words words' → PlacesOn g w words words' list list' r
 
 -- what the call answers, and what it leaves of the lent words and of the lent bytes

@@ -197,7 +197,8 @@ pub barred_zero : (may : View) (s : List ℕ) (g : Rules) (p : ℕ) (lay bytes :
     → ChangeOn may s g p lay bytes bytes (change_refusal Fault.NoRight 0)
 barred_zero may s g p lay bytes e = barred (λ m. omega (arith, m.low)) refl refl refl
 
-module _ {g : Grammar} (f : Formed g) (s : List ℕ) (e : rule_sheet s ≡ accepted (rules_of g)) (may : ℕ)
+module _ {g : Grammar} (f : Formed g) (s : List ℕ) (e : rule_sheet s ≡ accepted (rules_of g))
+    (may : ℕ)
     (p : ℕ) (lay bytes : List ℕ) where
   pub barred_past : g.count < p → ChangeOn (member may) s (rules_of g) p lay bytes bytes
       (change_refusal Fault.NoRight 0)

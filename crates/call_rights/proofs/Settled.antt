@@ -109,7 +109,8 @@ module _ {ws vs one one₂ two two₂ : List ℕ} (e : length ws ≡ length vs)
       (Show.reading q f' y) =
       let z = same_sheets p q in
       let v = same_items f f' in
-      trees_on_reply e d c (seen_by (may_see_of rs user)) g w ((sheets_apart rules tokens).distinct g w p)
+      trees_on_reply e d c (seen_by (may_see_of rs user)) g w
+      ((sheets_apart rules tokens).distinct g w p)
       x (rw (← z.0, ← z.1, ← v) at y)
 
 -- the same reply, and the same bytes, as many as it counts

@@ -49,7 +49,8 @@ same_second : {g : Rules} {w : Word} {t u : Tree} → Distinct g → SecondTree 
     → SecondTree g 0 w u → row_count t ≡ row_count u
 same_second d a b = ap row_count (second_tree_unique d a b)
 
-no_room : {r : TreesReply} (f : Fault) → number_of f ≡ 22 → r ≡ trees_reply_of (Answer.Refused f) 0 0 0
+no_room : {r : TreesReply} (f : Fault) → number_of f ≡ 22
+    → r ≡ trees_reply_of (Answer.Refused f) 0 0 0
     → NoRoom r
 no_room f q e = record { fault = f; number = q; answer = ap (λ (y : TreesReply). y.answer) e }
 

@@ -1,5 +1,6 @@
 -- The promise of the call `share`: docs/FORMAT.md, "Calls and lent memory" and "Refusals".
-use Rattle.std.specs.Prelude.{◌≡◌, ◌⊎◌, List, [], ◌++◌, ℕ, ◌-◌, ◌*◌, ◌/◌, ◌%◌, ◌≤◌, ◌<◌, length, replicate}
+use Rattle.std.specs.Prelude.{◌≡◌, ◌⊎◌, List, [], ◌++◌, ℕ, ◌-◌, ◌*◌, ◌/◌, ◌%◌, ◌≤◌, ◌<◌, length}
+use Rattle.std.specs.Prelude.{replicate}
 use Rattle.std.proofs.Math.Option.{none, some}
 use Rattle.grammar.specs.declared.Cell.{Cell}
 use Rattle.grammar.specs.Layout.{Word}
@@ -27,8 +28,7 @@ share_reply_of a N q r w = record {
   number = N;
   quotient = q;
   remainder = r;
-  sentence =
-      record { tokens = w ++ replicate (64 - length w) no_token; count = length w };
+  sentence = record { tokens = w ++ replicate (64 - length w) no_token; count = length w };
 }
 
 -- a refusal: no number, no quotient, no remainder and no token

@@ -20,7 +20,8 @@ use Rattle.call_sheets.specs.CallSheets.{show_start, change_start, begins_with, 
 use Rattle.call_sheets.specs.CallSheets.{with_number, share_end, share_third, share_second}
 use Rattle.call_sheets.specs.CallSheets.{share_call_of, broken, change_end, change_second}
 use Rattle.call_sheets.specs.CallSheets.{change_call_of, always_call, numbered_call, call_of}
-use Rattle.call_sheets.specs.CallSheets.{always_sheet, clauses_always_sheet, sweep_call, show_call_of}
+use Rattle.call_sheets.specs.CallSheets.{always_sheet, clauses_always_sheet, sweep_call}
+use Rattle.call_sheets.specs.CallSheets.{show_call_of}
 use Rattle.call_sheets.proofs.Laws.{begins_long}
 
 module _ (m : ℕ) where

@@ -1,5 +1,6 @@
 -- The call sheet of the program `calls`: a line of names, then a line of values, both ended.
-use Rattle.std.specs.Prelude.{Bool, false, cond, ◌&&◌, ◌||◌, List, [], ◌∷◌, ℕ, ◌+◌, ◌-◌, eqb, leb, length, get_or, take, drop}
+use Rattle.std.specs.Prelude.{Bool, false, cond, ◌&&◌, ◌||◌, List, [], ◌∷◌, ℕ, ◌+◌, ◌-◌, eqb, leb}
+use Rattle.std.specs.Prelude.{length, get_or, take, drop}
 use Rattle.std.proofs.Math.Option.{Option, none, some}
 use Rattle.fields.specs.Pieces.{pieces, same_bytes}
 use Rattle.fields.specs.Words.{numeral_of}
@@ -143,7 +144,8 @@ numbered_call s =
     cond (begins_with bound_start s) (with_number (numeral_of (values bound_start s)) sweep_call)
     (cond (begins_with show_start s) (with_number (numeral_of (values show_start s)) show_call_of)
     (cond (begins_with share_start s) (share_call_of (pieces 32 (values share_start s)))
-    (cond (begins_with change_start s) (change_call_of (length s) (pieces 32 (values change_start s)))
+    (cond (begins_with change_start s)
+    (change_call_of (length s) (pieces 32 (values change_start s)))
     (always_call s))))
 
 abbrev pub call_of : List ℕ → Call

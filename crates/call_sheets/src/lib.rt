@@ -6,7 +6,8 @@ ghost use Rattle.std.specs.Prelude.{◌≡◌, ◌+◌, ◌-◌, ◌≤◌, ◌<
 ghost use Rattle.fields.specs.Words.{numeral_of};
 ghost use Rattle.fields.specs.Answers.{as_number};
 ghost use Rattle.call_sheets.specs.CallSheets.{call_of, numbered_call, always_call, with_number};
-ghost use Rattle.call_sheets.specs.CallSheets.{share_call_of, change_call_of, sweep_call, show_call_of};
+ghost use Rattle.call_sheets.specs.CallSheets.{share_call_of, change_call_of, sweep_call};
+ghost use Rattle.call_sheets.specs.CallSheets.{show_call_of};
 ghost use Rattle.call_sheets.specs.OneField.{one_field_of};
 ghost use Rattle.call_sheets.specs.CallSheets.{begins_with, values, bound_start, show_start};
 ghost use Rattle.fields.specs.Cursors.{fields_left};

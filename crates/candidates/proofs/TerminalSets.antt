@@ -97,7 +97,8 @@ widened_range s a b u k e h = record {
   is = λ x. (
     λ m. ⊎_elim inl (λ q. inr (atom_is x a b k e q)) ((h.is x).0 m),
     ⊎_elim (λ m. (h.is x).1 (inl m))
-        (λ q. (h.is x).1 (inr (is_covers a b x (subst (λ (c : Clause). is_atom_of x c ≡ true) e q)))),
+        (λ q. (h.is x).1 (inr (is_covers a b x
+        (subst (λ (c : Clause). is_atom_of x c ≡ true) e q)))),
   );
 }
 
@@ -144,8 +145,7 @@ cells_over Q R f n m (c ∷ cs) k = (
   record {
     terminal = f c.terminal k.0.terminal;
     step = k.0.step;
-    low =
-        k.0.low;
+    low = k.0.low;
     high = k.0.high;
   },
   cells_over Q R f n 2 cs k.1,

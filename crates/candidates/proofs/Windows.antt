@@ -23,7 +23,8 @@ use Rattle.candidates.proofs.CellOrder.{least_cell}
 use Rattle.candidates.proofs.ListOrder.{fit_candidate, candidate_fit, least_nil, last_zero}
 use Rattle.candidates.proofs.ListOrder.{least_cons, last_cons, next_tail, next_head}
 
-pub room : (n i : ℕ) (c : Candidate) → 1 ≤ n → n ≤ 7 → Room n (largest_step_of i) (column_before_of c i)
+pub room : (n i : ℕ) (c : Candidate) → 1 ≤ n → n ≤ 7
+    → Room n (largest_step_of i) (column_before_of c i)
 room n zero c h k = record { nonempty = h; few = k; next = λ l. absurd (omega arith) }
 room n (suc i) c h k = record { nonempty = h; few = k; next = λ l. omega arith }
 
@@ -63,8 +64,7 @@ filled_end s n c i h =
     let e : n - i ≡ 0 = omega arith in
     record {
       kept = λ j l. refl;
-      least =
-          rw e (least_nil (Among s) n (largest_step_of i) (column_before_of c i));
+      least = rw e (least_nil (Among s) n (largest_step_of i) (column_before_of c i));
     }
 
 -- what is filled behind the least cell at i is filled from i on
@@ -74,7 +74,8 @@ filled_turn s n c i c' r h l f = record {
   kept = λ j k. f.kept j (omega arith) ∙ l.other j (λ e. omega arith);
   least =
       rw (cells_turn n i r h, turn n i h, f.kept i (omega arith))
-      (least_cons (Among s) n (largest_step_of i) (column_before_of c i) (n - (i + 1)) (cell_at c' i)
+      (least_cons (Among s) n (largest_step_of i) (column_before_of c i) (n - (i + 1))
+      (cell_at c' i)
       (cells r (i + 1) (n - (i + 1))) l.least
       (rw (step_turn i, column_turn c' i) at f.least));
 }
@@ -97,7 +98,8 @@ module _ (n : ℕ) (c : Candidate) (i m p : ℕ) (em : m ≡ largest_step_of i)
       }
 
   module _ (d : Cell) (ed : d ≡ cell_at c i) where
-    pub fits_at : (s : ℕ) → Fits (Among s) n (largest_step_of i) (column_before_of c i) (cell_at c i)
+    pub fits_at : (s : ℕ) → Fits (Among s) n (largest_step_of i) (column_before_of c i)
+        (cell_at c i)
         → Fits (Among s) n m p d
     fits_at s f = rw (em, ep, ed) f
 
@@ -135,12 +137,14 @@ module _ (s n : ℕ) (c : Candidate) where
 
   -- r's cells from i on are the least after all that share c's up to b
   abbrev NextFrom : ℕ → ℕ → Candidate → Type 0
-  NextFrom b i r = Next (Among s) n (largest_step_of i) (column_before_of c i) (b - i) (cells c i (n - i))
+  NextFrom b i r =
+      Next (Among s) n (largest_step_of i) (column_before_of c i) (b - i) (cells c i (n - i))
       (cells r i (n - i))
 
   -- none come after those
   abbrev pub LastFrom : ℕ → ℕ → Type 0
-  LastFrom b i = Last (Among s) n (largest_step_of i) (column_before_of c i) (b - i) (cells c i (n - i))
+  LastFrom b i =
+      Last (Among s) n (largest_step_of i) (column_before_of c i) (b - i) (cells c i (n - i))
 
   fit_turn : (i : ℕ) → i < n → FitFrom i
       → Fits (Among s) n (largest_step_of i) (column_before_of c i) (cell_at c i) × FitFrom (i + 1)
@@ -170,7 +174,8 @@ module _ (s n : ℕ) (c : Candidate) where
   pub last_turn : (b i : ℕ) → i < n → i < b → LastFrom b (i + 1)
       → LastCell (Among s) n (largest_step_of i) (column_before_of c i) (cell_at c i) → LastFrom b i
   last_turn b i h hb l x = rw (cells_turn n i c h, turn b i hb)
-      (last_cons (Among s) n (largest_step_of i) (column_before_of c i) (b - (i + 1)) (cell_at c i) _ x
+      (last_cons (Among s) n (largest_step_of i) (column_before_of c i) (b - (i + 1)) (cell_at c i)
+      _ x
       (last_later b i l))
 
   next_here : (b i upto : ℕ) (r : Candidate) → i < n → i < b → LastFrom b (i + 1)
@@ -184,13 +189,15 @@ module _ (s n : ℕ) (c : Candidate) where
 
   -- where the cell at i is kept, what comes next behind it comes next from it on
   next_turn : (b i : ℕ) (r : Candidate) → i < n → i < b
-      → Fits (Among s) n (largest_step_of i) (column_before_of c i) (cell_at c i) → cell_at r i ≡ cell_at c i
+      → Fits (Among s) n (largest_step_of i) (column_before_of c i) (cell_at c i)
+      → cell_at r i ≡ cell_at c i
       → NextFrom b (i + 1) r → NextFrom b i r
   next_turn b i r h hb f q x =
       let y : Next (Among s) n 2 (cell_at c i).column (b - (i + 1)) (cells c (i + 1) (n - (i + 1)))
       (cells r (i + 1) (n - (i + 1))) = rw (step_turn i, column_turn c i) at x in
       rw (cells_turn n i c h, cells_turn n i r h, turn b i hb, q)
-      (next_tail (Among s) n (largest_step_of i) (column_before_of c i) (b - (i + 1)) (cell_at c i) _ _ f
+      (next_tail (Among s) n (largest_step_of i) (column_before_of c i) (b - (i + 1)) (cell_at c i)
+      _ _ f
       y)
 
   next_whole : Of.Candidate (Among s) n (cells c 0 n) → (b i : ℕ) (r : Candidate) → i ≤ n → i ≤ b

@@ -1,4 +1,4 @@
--- A candidate's sentence as an array of tokens: 01, "the first on line 1, each next line 0, 1 or 2
+-- A candidate's sentence as an array of tokens: "the first on line 1, each next line 0, 1 or 2
 -- further".
 use Rattle.std.specs.Prelude.{◌≡◌, List, ℕ, ◌-◌, ◌≤◌, take, drop, replicate}
 use Rattle.grammar.specs.declared.Cell.{Cell}

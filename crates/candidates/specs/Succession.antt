@@ -1,4 +1,4 @@
--- The first candidate and the next one: 01, "The next candidate is worked out from the one before
+-- The first candidate and the next one: "The next candidate is worked out from the one before
 -- it by that order".
 use Rattle.std.specs.Prelude.{◌≡◌, Bool, true, false, ◌⊎◌, List, ℕ, ◌-◌, ◌≤◌, take}
 use Rattle.grammar.specs.declared.Cell.{Cell}

@@ -1,5 +1,5 @@
--- The terminals that candidates carry, as a 64-bit set, and T: 01, "The sweep", first two
--- sentences.
+-- The terminals that candidates carry, as a 64-bit set, and T: docs/FORMAT.md, "The sweep", first
+-- two sentences.
 use Rattle.std.specs.Prelude.{◌≡◌, true, ◌⊎◌, ◌↔◌, ℕ, ◌≤◌, ◌<◌}
 use Rattle.std.specs.Int.Count.{ones}
 use Rattle.sets.specs.Sets.{In}

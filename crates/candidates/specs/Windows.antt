@@ -1,7 +1,8 @@
 -- What the inner functions on one cell and on the cells from one on promise; only the proofs in
 -- this crate need it. A cell is judged by what stands before it: the first follows a token in
 -- column 0 with a largest step of 0, so one rule serves all cells.
-use Rattle.std.specs.Prelude.{◌≡◌, Bool, true, false, ◌⊎◌, ◌≢◌, List, [], ◌∷◌, ℕ, zero, suc, ◌+◌, ◌-◌, ◌≤◌, ◌<◌, length, get_or}
+use Rattle.std.specs.Prelude.{◌≡◌, Bool, true, false, ◌⊎◌, ◌≢◌, List, [], ◌∷◌, ℕ, zero, suc, ◌+◌}
+use Rattle.std.specs.Prelude.{◌-◌, ◌≤◌, ◌<◌, length, get_or}
 use Rattle.grammar.specs.declared.Cell.{Cell}
 use Rattle.grammar.specs.Candidates.{Ranged, CellBefore, CellsBefore}
 use Rattle.candidates.specs.declared.Candidate.{Candidate}
@@ -106,17 +107,20 @@ pub record Lowered (s n : ℕ) (c : Candidate) (i : ℕ) (r : Candidate) : Type 
 -- from i on r has the least cells after c's
 pub record Filled (s n : ℕ) (c : Candidate) (i : ℕ) (r : Candidate) : Type 0 where
   pub kept : Kept c i r
-  pub least : Least (Among s) n (largest_step_of i) (column_before_of c i) (n - i) (cells r i (n - i))
+  pub least : Least (Among s) n (largest_step_of i) (column_before_of c i) (n - i)
+      (cells r i (n - i))
 
 -- r has the next cell at i, and the least ones behind it
 pub record Raised (s n : ℕ) (c : Candidate) (i upto : ℕ) (r : Candidate) : Type 0 where
   pub at : upto ≡ i + 1
   pub kept : Kept c i r
-  pub next : NextCell (Among s) n (largest_step_of i) (column_before_of c i) (cell_at c i) (cell_at r i)
+  pub next : NextCell (Among s) n (largest_step_of i) (column_before_of c i) (cell_at c i)
+      (cell_at r i)
   pub least : Least (Among s) n 2 (cell_at r i).column (n - (i + 1)) (cells r (i + 1) (n - (i + 1)))
 
 -- so it is where there is more, else the cell at i is the last
 pub record Raises (s n : ℕ) (c : Candidate) (i : ℕ) (more : Bool) (upto : ℕ) (r : Candidate) : Type
     0 where
   pub next : more ≡ true → Raised s n c i upto r
-  pub last : more ≡ false → LastCell (Among s) n (largest_step_of i) (column_before_of c i) (cell_at c i)
+  pub last : more ≡ false → LastCell (Among s) n (largest_step_of i) (column_before_of c i)
+      (cell_at c i)

@@ -179,7 +179,8 @@ impl Candidate {
     fn raised(self, set: u64, low: u8, n: usize, i: usize) -> Stepped
         requires le_n { (1 ≤ n) × (n ≤ 7) × (i < n) }
         requires lowest { Lowest set low }
-        requires fits { Fits (Among set) n (largest_step_of i) (column_before_of self i) (cell_at self i) }
+        requires fits { Fits (Among set) n (largest_step_of i) (column_before_of self i)
+            (cell_at self i) }
         ensures { Raises set n self i result.more result.upto result.to }
     {
         let m = Candidate::largest_step(i);

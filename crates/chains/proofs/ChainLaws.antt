@@ -155,7 +155,8 @@ upto_stored g e {ups} {ws} {ws'} l v t c = upto_next g e l t c.size c.else new
             ∙ sym (c.here (2 * B) (omega arith))
 
         second : get_or ups (0 + 2 * B + 1) 0 ≡ get_or ws' (128 * l + 2 * B + 1) 0
-        second = ap (λ (q : ℕ). get_or ups q 0) (let y : 0 + 2 * B + 1 ≡ 2 * B + 1 = omega arith in y)
+        second = ap (λ (q : ℕ). get_or ups q 0)
+            (let y : 0 + 2 * B + 1 ≡ 2 * B + 1 = omega arith in y)
             ∙ sym (c.here (2 * B + 1) (omega arith)) ∙ ap (λ (q : ℕ). get_or ws' q 0)
             (let y : 128 * l + (2 * B + 1) ≡ 128 * l + 2 * B + 1 = omega arith in y)
 

@@ -60,11 +60,13 @@ exact_words {g} {w} {n} {ws} {to} ws' e y = record {
 module _ {g : Rules} {w : Word} {n : ℕ} {ws : List ℕ} (x : Exact g w n ws 0) where
   pub null_one : (a A : ℕ) → In (first_word ws n a 0) A → Derives g A (part w a 0)
   null_one a A m = (x.one 0 0 A (omega arith)).0
-      (subst (λ (q : ℕ). In (get_or ws (2 * q) 0) A) (pair_at_empty n a ∙ sym (pair_at_empty n 0)) m)
+      (subst (λ (q : ℕ). In (get_or ws (2 * q) 0) A) (pair_at_empty n a ∙ sym (pair_at_empty n 0))
+      m)
 
   pub null_two : (a A : ℕ) → In (second_word ws n a 0) A → TwoTrees g A (part w a 0)
   null_two a A m = (x.two 0 0 A (omega arith)).0
-      (subst (λ (q : ℕ). In (get_or ws (2 * q + 1) 0) A) (pair_at_empty n a ∙ sym (pair_at_empty n 0))
+      (subst (λ (q : ℕ). In (get_or ws (2 * q + 1) 0) A)
+      (pair_at_empty n a ∙ sym (pair_at_empty n 0))
       m)
 
 -- and goes by no sentence: it is the first two words

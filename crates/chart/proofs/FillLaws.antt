@@ -35,7 +35,8 @@ module _ (ws ws' : List ℕ) (n p : ℕ) (kept : Kept ws ws' p) where
   pub first_kept : (a b : ℕ) → (pair_at n a b ≡ p → ⊥) → first_word ws' n a b ≡ first_word ws n a b
   first_kept a b other = kept.rest (2 * pair_at n a b) (λ e. other (omega arith)) (omega arith)
 
-  pub second_kept : (a b : ℕ) → (pair_at n a b ≡ p → ⊥) → second_word ws' n a b ≡ second_word ws n a b
+  pub second_kept : (a b : ℕ) → (pair_at n a b ≡ p → ⊥)
+      → second_word ws' n a b ≡ second_word ws n a b
   second_kept a b other = kept.rest (2 * pair_at n a b + 1) (omega arith) (λ e. other (omega arith))
 
 -- a shorter part has another pair
@@ -48,7 +49,8 @@ shorter_other n s len a b fit h other e = other (pair_at_same n a b s len (omega
 pub given_same : (ws : List ℕ) (n : ℕ) → Given ws ws n
 given_same ws n = record { first = λ i x. refl; second = λ i x. refl }
 
-pub given_then : {ws ws' ws'' : List ℕ} {n : ℕ} → Given ws ws' n → Given ws' ws'' n → Given ws ws'' n
+pub given_then : {ws ws' ws'' : List ℕ} {n : ℕ} → Given ws ws' n → Given ws' ws'' n
+    → Given ws ws'' n
 given_then f g = record {
   first = λ i x. g.first i x ∙ f.first i x;
   second = λ i x. g.second i x
@@ -113,7 +115,8 @@ module _ (ws ws' : List ℕ) (g : Rules) (h : Half) (n s len : ℕ) (k : SpanMar
     settled = record {
       derived = λ A kn m. (sound kn).0 A (subst (λ (q : ℕ). In q A) w.first m);
       more = λ A kn m. (sound kn).1 A (subst (λ (q : ℕ). In q A) w.second m);
-      each = λ A i l u c. each A i l (stand_view (One ws' n) g (by_tokens h s len) (by_marks k len) s
+      each = λ A i l u c. each A i l (stand_view (One ws' n) g (by_tokens h s len) (by_marks k len)
+          s
           len A i l (tokens_marks h s len k marked) c);
       again = λ A u c. again A (again_view (One ws' n) (Two ws' n) g (by_tokens h s len)
           (by_marks k len) s len A (tokens_marks h s len k marked) c);
@@ -166,8 +169,7 @@ stand_by : (one one' : Table) (r : Rules) (v : Leave) (s len A i l : ℕ) → Pa
 stand_by one one' r v s len A i l f c = record {
   within = c.within;
   left = c.left;
-  fits =
-      fits_by one one' v s len (rule r i).clause l f c.fits;
+  fits = fits_by one one' v s len (rule r i).clause l f c.fits;
 }
 
 again_by : (one one' two two' : Table) (r : Rules) (v : Leave) (s len A : ℕ) → Parts one one' s len
@@ -267,8 +269,7 @@ stand_empty : (one : Table) (r : Rules) (h : Half) (s s' A i l : ℕ) → Anywhe
 stand_empty one r h s s' A i l f c = record {
   within = c.within;
   left = c.left;
-  fits =
-      fits_empty one h s s' (rule r i).clause l f c.fits;
+  fits = fits_empty one h s s' (rule r i).clause l f c.fits;
 }
 
 again_empty : (one two : Table) (r : Rules) (h : Half) (s s' A : ℕ) → Anywhere one → Anywhere two
@@ -293,7 +294,8 @@ settled_empty ws g h n a t = record {
   where
     one : Anywhere (One ws n)
     one x y B m =
-        subst (λ (q : ℕ). In (get_or ws (2 * q) 0) B) (pair_at_empty n x ∙ sym (pair_at_empty n y)) m
+        subst (λ (q : ℕ). In (get_or ws (2 * q) 0) B) (pair_at_empty n x ∙ sym (pair_at_empty n y))
+        m
 
     two : Anywhere (Two ws n)
     two x y B m = subst (λ (q : ℕ). In (get_or ws (2 * q + 1) 0) B)

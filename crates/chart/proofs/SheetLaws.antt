@@ -291,7 +291,7 @@ module _ (ws ws' : List ℕ) (g : Rules) (h : Half) (n : ℕ) (long : length h.w
 pub whole_part : (w : Word) (n : ℕ) → length w ≡ n → part w 0 n ≡ w
 whole_part w n e = take_all n w (omega arith)
 
--- where all is known it is 01's span sheet
+-- where all is known it is the span sheet
 pub exact_sheet : {g : Rules} {w : Word} {n : ℕ} {ws : List ℕ} → length w ≡ n
     → 2 * pairs n ≤ length ws → Exact g w n ws n → SpanSheet g w ws
 exact_sheet {g} {w} {n} {ws} e enough x =

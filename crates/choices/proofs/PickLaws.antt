@@ -201,19 +201,24 @@ before_after p k i j (inr a) = go (dec_lt j k)
 -- what the search finds by the marks is grammar's next choice
 module _ (g : Grammar) (w : Word) (ws : List ℕ) (s len : ℕ) (m : SpanMarks) (A p k : ℕ)
     (formed : Formed g) where
-  next_whole : (r : Pick) → s + len ≤ length w → SpanSheet (rules_of g) w ws → Marked (whole w) s len m
+  next_whole : (r : Pick) → s + len ≤ length w → SpanSheet (rules_of g) w ws
+      → Marked (whole w) s len m
       → FirstPick ws g (length w) s len m A p k r → NextChoice (rules_of g) A (part w s len) p k r
   next_whole r fit sheet marked = go r
     where
-      to : (i l : ℕ) → Stood ws g (length w) s len m A i l → Choice (rules_of g) A (part w s len) i l
+      to : (i l : ℕ) → Stood ws g (length w) s len m A i l
+          → Choice (rules_of g) A (part w s len) i l
       to i l c =
           stand_choice (rules_of g) w ws sheet s len fit (small_at formed) A i l
-          (stand_view (One ws (length w)) (rules_of g) (by_marks m len) (by_tokens (whole w) s len) s len
+          (stand_view (One ws (length w)) (rules_of g) (by_marks m len) (by_tokens (whole w) s len)
+          s len
           A i l (marks_tokens (whole w) s len m marked) c)
 
-      from : (i l : ℕ) → Choice (rules_of g) A (part w s len) i l → Stood ws g (length w) s len m A i l
+      from : (i l : ℕ) → Choice (rules_of g) A (part w s len) i l
+          → Stood ws g (length w) s len m A i l
       from i l c =
-          stand_view (One ws (length w)) (rules_of g) (by_tokens (whole w) s len) (by_marks m len) s len
+          stand_view (One ws (length w)) (rules_of g) (by_tokens (whole w) s len) (by_marks m len) s
+          len
           A i l (tokens_marks (whole w) s len m marked)
           (choice_stand (rules_of g) w ws sheet s len fit (small_at formed) A i l c)
 

@@ -1,4 +1,5 @@
--- What a clause line says: a left and an expression, or 41, or 42. 02, request 2.
+-- What a clause line says: a left and an expression, or 41, or 42. docs/FORMAT.md, "The clause
+-- sheet".
 use Rattle.std.specs.Prelude.{ℕ, ◌+◌, List, cond, length, drop, leb}
 use Rattle.std.proofs.Math.Option.{Option, none, some}
 use Rattle.fields.specs.Pieces.{before}

@@ -1,5 +1,6 @@
 -- For inner functions: the flat walk over an expression's lexemes.
-use Rattle.std.specs.Prelude.{ℕ, ◌+◌, ◌-◌, max, List, Bool, true, false, cond, not, ◌&&◌, ◌||◌, drop, leb, eqb}
+use Rattle.std.specs.Prelude.{ℕ, ◌+◌, ◌-◌, max, List, Bool, true, false, cond, not, ◌&&◌, ◌||◌}
+use Rattle.std.specs.Prelude.{drop, leb, eqb}
 use Rattle.std.proofs.Math.Option.{Option, none, some}
 use Rattle.clauses.specs.Expansion.{past_expr}
 use Rattle.clauses.specs.Clauses.{Expr, alternatives}
@@ -92,8 +93,7 @@ stepped w Lexeme.Open e = record {
   state = State.Due;
   deep = w.deep + 1;
   over = w.over || leb 16 w.deep;
-  past =
-      w.past;
+  past = w.past;
 }
 stepped w Lexeme.Close e =
     record { at = e; state = State.Grouped; deep = w.deep - 1; over = w.over; past = w.past }

@@ -87,8 +87,7 @@ module _ (s : List ℕ) (at e : ℕ) (A₁ : AtomEnd s at e) (x : Lexed) (X : Le
   item_ends_suffix z = record {
     from = omega (arith, A₁.from, X.from);
     within = X.within;
-    ends =
-        λ f l k w p h. go f l k p h (item_view w);
+    ends = λ f l k w p h. go f l k p h (item_view w);
   }
     where
       go : (f : Expr item) (l k : List Lex) → NoSuffix k → Left s at (l ++ k) → ItemView f l
@@ -119,14 +118,14 @@ module _ (s : List ℕ) (at e : ℕ) (A₁ : AtomEnd s at e) (x : Lexed) (X : Le
 
 -- ( .. )
 module _ (s : List ℕ) (at : ℕ) (out : Emit) (x : Lexed) (X : Lexes s at x) where
-  pub group_read : (o : Emit) (r : PartEmit) (y : Lexed) → sort_of_of x.lexeme ≡ 1 → CountsOn out 1 o
+  pub group_read : (o : Emit) (r : PartEmit) (y : Lexed) → sort_of_of x.lexeme ≡ 1
+      → CountsOn out 1 o
       → AlternativesRead s x.end out.next o r → Lexes s r.at y
       → AtomRead s at out (record { at = y.end; name = out.next; out = r.out })
   group_read o r y z f g Y = record {
     from = omega (arith, X.from, g.from, Y.from);
     within = Y.within;
-    room =
-        λ u. f.room (g.room u);
+    room = λ u. f.room (g.room u);
     reads = go;
   }
     where
@@ -143,8 +142,7 @@ module _ (s : List ℕ) (at : ℕ) (out : Emit) (x : Lexed) (X : Lexes s at x) w
           (left_by (append_assoc w (closing ∷ []) k) b) in
           record {
             adds = adds_then (λ j. emit i out.next j) f R.adds;
-            left =
-                λ u. behind s r.at y Y closing k (R.left u);
+            left = λ u. behind s r.at y Y closing k (R.left u);
             named = λ u. refl;
           }
 
@@ -321,8 +319,7 @@ module _ (s : List ℕ) (at e : ℕ) (A₁ : AtomEnd s at e) (x : Lexed) (X : Le
     from = omega arith;
     within = m;
     room = c.room;
-    reads =
-        λ f l k L w i h. go f l k L i h (item_view w);
+    reads = λ f l k L w i h. go f l k L i h (item_view w);
   }
     where
       go : (f : Expr item) (l k : List Lex) (L : ℕ) → NoSuffix k → Left s at (l ++ k) → ItemView f l
@@ -357,8 +354,7 @@ crowd {s} {out} {r} {a} {new} {k} {rest} q newq kq A₁ z g h l =
       adds = ⊎_elim (λ y. adds_over y cause) (λ y. absurd (z (g y)))
           (true_or_false r.out.over);
       left = λ u. absurd (z (g u));
-      named =
-          λ u. absurd (z (g u));
+      named = λ u. absurd (z (g u));
     }
   where
     cause : Cause out k (length new)
@@ -439,8 +435,7 @@ module _ (s : List ℕ) (at : ℕ) (out o : Emit) (F : CountsOn out 1 o) (i : Pa
       record {
         from = omega (arith, I.from, X.from, T.from);
         within = T.within;
-        room =
-            λ u. F.room (I.room (T.room (P.room u)));
+        room = λ u. F.room (I.room (T.room (P.room u)));
         reads = go;
       }
     where
@@ -513,7 +508,8 @@ module _ (s : List ℕ) (at : ℕ) (out o : Emit) (F : CountsOn out 1 o) (i : Pa
                     (λ d j. (emit g 0 (out.next
                     + 1) ++ emit f 0 (shift
                     out.next (size g)
-                    j)) ++ (B out.next (named_first g w₁ (join m ∷ (w₂ ++ k)) w (join_next m (w₂ ++ k)) h' y j)
+                    j)) ++ (B out.next (named_first g w₁ (join m ∷ (w₂ ++ k)) w
+                    (join_next m (w₂ ++ k)) h' y j)
                     ((S.named (P.room d) ∙ ap (name f) next) j) (G m q.same j)
                     ∷ [])) u);
                 left = λ d. S.left (P.room d);
@@ -588,8 +584,7 @@ module _ (s : List ℕ) (at L : ℕ) (out : Emit) (a : PartEmit) (S : SequenceRe
           let R = S.reads g l k L w c.row h in
           record {
             adds = adds_same refl (add_none (size g)) (adds_also R.adds P);
-            left =
-                λ y. R.left (P.room y);
+            left = λ y. R.left (P.room y);
             named = λ y. refl;
           }
         where

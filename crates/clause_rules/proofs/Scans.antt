@@ -20,7 +20,8 @@ scan_start s at h =
     record { from = omega arith; within = h; few = omega arith; same = λ k e. (k, e, refl) }
 
 -- a lexeme that is one goes further
-pub goes_on : (s : List ℕ) (at : ℕ) (l : Lexeme) (e : ℕ) → LexemeTells s at l e → (sort_of_of l ≡ 6 → ⊥)
+pub goes_on : (s : List ℕ) (at : ℕ) (l : Lexeme) (e : ℕ) → LexemeTells s at l e
+    → (sort_of_of l ≡ 6 → ⊥)
     → at < e
 goes_on s at (Lexeme.Nonterminal a) e h z = h.further
 goes_on s at (Lexeme.Terminal a) e h z = h.further

@@ -114,7 +114,8 @@ left_terms v x c deep j q = absurd (clash cc)
 line_terms : (line : List ℕ) (c : ClauseLine) → clause_line line ≡ good c → Terms c.expr
 line_terms line c h = go (numeral_of (before 32 line)) h
   where
-    go : (o : Option ℕ) → left_says o (expression (drop (length (before 32 line) + 1) line)) ≡ good c
+    go : (o : Option ℕ) → left_says o (expression (drop (length (before 32 line) + 1) line))
+        ≡ good c
         → Terms c.expr
     go none q = absurd (clash cc)
     go (some v) q = which (leb v 63) q
@@ -141,7 +142,8 @@ step_good seen p false c e = go (is_empty p) e
     go true q = absurd (clash cc)
     go false q = absurd (clash cc)
 
-pub all_terms : (ps : List (List ℕ)) (l : List ClauseLine) → items_from clause_step [] ps ≡ accepted l
+pub all_terms : (ps : List (List ℕ)) (l : List ClauseLine)
+    → items_from clause_step [] ps ≡ accepted l
     → TermsAll (clauses_of l)
 all_terms ps l =
     items_hold clause_step (λ w. TermsAll (clauses_of w))
@@ -174,14 +176,16 @@ module _ (ps : List (List ℕ)) (p : ℕ) (W : AllSaid ps p) where
   pub rules_many : 128 < length (emit_all sheet (past_all sheet)) → clauses_from ps ≡ refused 43 0
   rules_many h = go (leb (past_all sheet + size_all sheet) 64) refl
     where
-      go : (b : Bool) → leb (past_all sheet + size_all sheet) 64 ≡ b → clauses_from ps ≡ refused 43 0
+      go : (b : Bool) → leb (past_all sheet + size_all sheet) 64 ≡ b
+          → clauses_from ps ≡ refused 43 0
       go false e = no_fit (ap (λ (b : Bool). b && leb (length (expansion sheet)) 128) e)
       go true e =
           let z = same_many (leb→le (past_all sheet + size_all sheet) 64 (rw e tt)) in
           no_fit (ap (λ (b : Bool). b && leb (length (expansion sheet)) 128) e
           ∙ lt-leb (length (expansion sheet)) 128 (omega arith))
 
-  pub room_for : past_all sheet + size_all sheet ≤ 64 → length (emit_all sheet (past_all sheet)) ≤ 128
+  pub room_for : past_all sheet + size_all sheet ≤ 64
+      → length (emit_all sheet (past_all sheet)) ≤ 128
       → clauses_from ps ≡ finish (accepted (expansion sheet))
   room_for h k =
       let z = same_many h in

@@ -31,7 +31,8 @@ use Rattle.rule_output.specs.Emitting.{Emit, PartEmit}
 use Rattle.rule_output.specs.Emitting.{Emit, Adds}
 use Rattle.clause_rules.specs.Reading.{AlternativesRead}
 use Rattle.clause_lines.specs.ClauseLines.{ClauseLine, Said, good, unwritten, deep, shallow_only}
-use Rattle.clause_lines.specs.ClauseLines.{lexemes_say, expression, with_left, left_says, clause_line}
+use Rattle.clause_lines.specs.ClauseLines.{lexemes_say, expression, with_left, left_says}
+use Rattle.clause_lines.specs.ClauseLines.{clause_line}
 use Rattle.clause_sheets.specs.declared.LineChecked.{LineChecked}
 use Rattle.clause_sheets.specs.Checks.{line_checked, expression_checked, LineEmitted}
 use Rattle.fields.specs.Cursors.{bytes_left, fields_left, with_cursor, read_field}
@@ -94,8 +95,7 @@ module _ (s : List ℕ) (c : Cursor) (low : (c.at ≤ c.end) × (c.end ≤ lengt
           record {
             number = h ∙ ap some (sym i);
             at = ap (λ (x : Cursor). x.at) j;
-            end =
-                ap (λ (x : Cursor). x.end) j;
+            end = ap (λ (x : Cursor). x.end) j;
           }
 
   pub unsplit : NumberField.Bad ≡ number_field_of (read_field numeral_of c (fields_left s c))
@@ -182,7 +182,8 @@ pub record Says' (x : List ℕ) (e : Expr alternatives) : Type 0 where
 good_expression : (x : List ℕ) (e : Expr alternatives) → expression x ≡ good e → Says' x e
 good_expression x e h = go (lexemes x) refl h
   where
-    pick : (l : List Lex) → lexemes x ≡ some l → (d : Dec (IsExpression l)) → shallow_only d ≡ good e
+    pick : (l : List Lex) → lexemes x ≡ some l → (d : Dec (IsExpression l))
+        → shallow_only d ≡ good e
         → Says' x e
     pick l j (no f) q = absurd (clash cc)
     pick l j (yes y) q = which (leb (depth y.expr) 16) q
@@ -193,8 +194,7 @@ good_expression x e h = go (lexemes x) refl h
             record {
               lexes = l;
               lexed = j;
-              written =
-                  subst (λ (k : Expr alternatives). WrittenAs (many k) l) w y.written;
+              written = subst (λ (k : Expr alternatives). WrittenAs (many k) l) w y.written;
             }
         which false z = absurd (clash cc)
 

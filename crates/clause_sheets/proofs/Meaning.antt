@@ -33,7 +33,8 @@ pub record MeantBy (x : Reading (List ClauseLine)) (g : Rules) : Type 0 where
 abbrev pub Meant : List ℕ → Rules → Type 0
 Meant s g = MeantBy (sheet_lines s) g
 
-finished_as : (v g : Rules) → finish (accepted v) ≡ accepted g → (g ≡ v) × (any_of is_start v ≡ true)
+finished_as : (v g : Rules) → finish (accepted v) ≡ accepted g
+    → (g ≡ v) × (any_of is_start v ≡ true)
 finished_as v g e = go (any_of is_start v) refl e
   where
     go : (b : Bool) → any_of is_start v ≡ b → cond b (accepted v) (refused 7 0) ≡ accepted g

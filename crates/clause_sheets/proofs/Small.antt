@@ -134,7 +134,8 @@ signs_term = (tt, (tt, (tt, (tt, (tt, (tt, (tt, (tt, (tt, (tt, (tt, (tt, (tt, (t
 lexeme_term : (s : List ℕ) → TermFound (lexeme s)
 lexeme_term s = first_term signs s signs_term
 
-every_onto : (x : Lex) (o : Option (List Lex)) (l : List Lex) → onto_lexemes x o ≡ some l → TermLex x
+every_onto : (x : Lex) (o : Option (List Lex)) (l : List Lex) → onto_lexemes x o ≡ some l
+    → TermLex x
     → ((k : List Lex) → o ≡ some k → Every TermLex k) → Every TermLex l
 every_onto x none l e h f = absurd (clash cc)
 every_onto x (some k) l e h f = let z : ◌≡◌ {A = List Lex} (x ∷ k) l = cc in

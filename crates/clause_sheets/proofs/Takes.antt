@@ -57,7 +57,8 @@ module _ (K : ℕ) (w : List ℕ) (i : ℕ) (h : i < length w) where
 
   one_more : take (i + 1) (map word_rule w) ≡ seen ++ (rule ∷ [])
   one_more =
-      rw add-one (take-suc (map word_rule w) i (word_rule 0) (omega (arith, length-map w word_rule)))
+      rw add-one (take-suc (map word_rule w) i (word_rule 0)
+      (omega (arith, length-map w word_rule)))
       ∙ ap (λ (r : Rule). seen ++ (r ∷ [])) (get_or-map word_rule w i 0)
 
   of_one : (b : Bool) → eqb rule.left K ≡ b
@@ -150,7 +151,8 @@ module _ {w : List ℕ} {n : ℕ} {rules : Rules} {count left i : ℕ}
           few = omega arith;
           first = λ z. absurd (omega arith);
           long = length-set rules count x ∙ T.long;
-          taken = taken_by (ap (λ (y : Rule). (rising left all ++ of left (take i (map word_rule w)))
+          taken = taken_by (ap (λ (y : Rule).
+              (rising left all ++ of left (take i (map word_rule w)))
               ++ (y ∷ [])) q ∙ more true (eq-eqb looked.left left e))
               (taken_one _ x rules count (omega (arith, T.long)) T.taken);
         }

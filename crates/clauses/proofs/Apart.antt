@@ -75,7 +75,8 @@ begins_apart : (q : AtLeast) (N n : ℕ) (e : Expr item) (s : Rule) → Under N 
 begins_apart from_one N n e s u h q c = not_fresh N n e u h (same_target refl q c)
 begins_apart C.from_zero N n e s u h q c = never_alike refl q c
 
-apart_rules : {s : Sort} (N : ℕ) (e : Expr s) (n : ℕ) → Under N e → N ≤ n → AllApart (expr_rules e n)
+apart_rules : {s : Sort} (N : ℕ) (e : Expr s) (n : ℕ) → Under N e → N ≤ n
+    → AllApart (expr_rules e n)
 apart_rules N (nonterminal L) n u h = tt
 apart_rules N (a_part e) n u h = apart_rules N e n u h
 apart_rules N (terminal a) n u h = ((λ s m c. Memᴰ.not-nil m), tt)
@@ -185,7 +186,7 @@ expansion_apart c =
 same_some : {A : Type 0} {x y : A} → ◌≡◌ {A = Option A} (some x) (some y) → x ≡ y
 same_some e = cc
 
--- rules that are all apart are distinct, as 01's refusal 5 keeps them
+-- rules that are all apart are distinct, as refusal 5 keeps them
 pub apart_distinct : (g : Rules) → AllApart g → Distinct g
 apart_distinct g a = record { one = λ p q r s e f l k. go g a p q r s e f l k }
   where

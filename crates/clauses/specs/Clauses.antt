@@ -1,4 +1,4 @@
--- Clauses as people write them: expressions and clause sheets. 02, request 2.
+-- Clauses as people write them: expressions and clause sheets. docs/FORMAT.md, "The clause sheet".
 use Rattle.std.specs.Prelude.{ℕ}
 use Rattle.grammar.specs.declared.UnaryMark.{UnaryMark}
 use Rattle.grammar.specs.declared.BinaryMark.{BinaryMark}

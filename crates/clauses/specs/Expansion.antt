@@ -1,5 +1,5 @@
 -- A clause sheet expanded to a rule sheet: its new nonterminals, their numbers, their rules and the
--- order of the rules. 02, request 2.
+-- order of the rules. docs/FORMAT.md, "The clause sheet".
 use Rattle.std.specs.Prelude.{true, false, [], ◌∷◌, ◌++◌, ℕ, zero, suc, ◌+◌, max, eqb}
 use Rattle.grammar.specs.declared.Rule.{Rule}
 use Rattle.grammar.specs.declared.UnaryMark.{UnaryMark}
@@ -58,7 +58,7 @@ repeat_begins C.from_zero n B = E n
 
 -- The rules of a part's new nonterminals, which begin with n. Longer sequences split off their
 -- first item; the first nonterminal of a marked group has a U rule of that mark to the second.
--- Repeats expand as in source document 000, section 3: A → B? gives A → B, A → ε; A → B+ gives A →
+-- Repeats expand as in the paper, section 3: A → B? gives A → B, A → ε; A → B+ gives A →
 -- B, A → C, C → A B; A → B* gives A → ε, A → C, C → A B
 abbrev pub expr_rules : {s : Sort} → Expr s → ℕ → Rules
 expr_rules (nonterminal A) n = []
@@ -77,7 +77,8 @@ expr_rules (or e f) n = expr_rules e n ++ expr_rules f (n + size e)
 -- the rules of a sheet whose new nonterminals begin with n, line by line
 abbrev pub expand_from : Clauses → ℕ → Rules
 expand_from C.no_line n = []
-expand_from (a_line L e c) n = (alternative_rules L e n ++ expr_rules e n) ++ expand_from c (n + size e)
+expand_from (a_line L e c) n =
+    (alternative_rules L e n ++ expr_rules e n) ++ expand_from c (n + size e)
 
 -- the rules of one left, in the order given
 abbrev pub of : ℕ → Rules → Rules

@@ -1,4 +1,5 @@
--- The readings of a sentence under the clauses, defined without the expansion. 02, request 2.
+-- The readings of a sentence under the clauses, defined without the expansion. docs/FORMAT.md, "The
+-- clause sheet".
 use Rattle.std.specs.Prelude.{◌≡◌, [], ◌∷◌, ◌++◌, ℕ}
 use Rattle.grammar.specs.declared.Token.{Token}
 use Rattle.grammar.specs.declared.UnaryMark.{UnaryMark}

@@ -1,4 +1,5 @@
--- How expressions are written, by lexemes, and how deep groups are nested. 02, request 2.
+-- How expressions are written, by lexemes, and how deep groups are nested. docs/FORMAT.md, "The
+-- clause sheet".
 use Rattle.std.specs.Prelude.{List, [], ◌∷◌, ◌++◌, ℕ, suc, max}
 use Rattle.grammar.specs.declared.UnaryMark.{UnaryMark}
 use Rattle.grammar.specs.declared.BinaryMark.{BinaryMark}

@@ -39,7 +39,8 @@ drop_fewer [] e (suc i) = le_refl _
 drop_fewer (r ∷ rs) e (suc i) =
     let h = drop_fewer rs e.1 i in
     let c : 1 ≤ columns r = omega (arith, e.0.ordered) in
-    let m : 1 * choice_count rs ≤ columns r * choice_count rs = mul-le-mul_right (choice_count rs) c in
+    let m : 1 * choice_count rs ≤ columns r * choice_count rs =
+    mul-le-mul_right (choice_count rs) c in
     omega (arith, rw (one-mul (choice_count rs)) at m)
 
 -- where the count stands: the tokens from i on are counted

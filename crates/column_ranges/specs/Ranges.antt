@@ -1,5 +1,5 @@
 -- Tokens whose columns are known between two ends, and what some choice of columns within them
--- gives: 02, request 10.
+-- gives: docs/FORMAT.md, "The range sheet".
 use Rattle.std.specs.Prelude.{◌≡◌, List, [], ◌∷◌, ℕ, ◌+◌, ◌-◌, ◌*◌, ◌≤◌}
 use Rattle.grammar.specs.declared.Token.{Token}
 use Rattle.grammar.specs.Layout.{Word, line, col, width}

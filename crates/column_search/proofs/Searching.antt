@@ -81,7 +81,8 @@ pub leaved_narrowed : {g : Rules} {r s : RangeSentence} {t c : ℕ} {ws : List �
 leaved_narrowed {g} {r} {s} {t} {c} {ws} p h q l =
     subst (λ (n : ℕ). Leaved g (ranges_of s) n ws) (sym q.count) (leaved_as terminal l)
   where
-    at : (i : ℕ) → Dec (i ≡ t) → (range (fixed_at (ranges_of r) t ((range (ranges_of r) t).low.0 + c)) i
+    at : (i : ℕ) → Dec (i ≡ t) → (range
+        (fixed_at (ranges_of r) t ((range (ranges_of r) t).low.0 + c)) i
         ).terminal ≡ (range (ranges_of r) i).terminal
     at i (yes e) = subst (λ (j : ℕ). (range
         (fixed_at (ranges_of r) t ((range (ranges_of r) t).low.0 + c)) j).terminal
@@ -172,7 +173,8 @@ module _ {g : Rules} {rs : Ranges} {n : ℕ} {ws₁ ws₂ : List ℕ} (distinct 
       go false c = refl
   foreseen {p} {q} {u} {z} a b c d Verdict.One y = go p z a d
     where
-      go : (p z : Bool) → Says p (In (first_word ws₁ n 0 n) 0) → Says z (In (second_word ws₂ n 0 n) 0)
+      go : (p z : Bool) → Says p (In (first_word ws₁ n 0 n) 0)
+          → Says z (In (second_word ws₂ n 0 n) 0)
           → p && not z ≡ true
       go true true a d =
           absurd (one_not_two y.verdict (two_must y.word y.chosen (d.is refl)))
@@ -242,8 +244,7 @@ searched_none {g} {rs} {n} {f} {ws} d = record {
     all = λ v y. ⊎_elim (λ z. z v)
         (λ z. absurd (z (chosen_rise rs y.word y.chosen y.rising))) d;
   };
-  leaving =
-      leaving_same n ws;
+  leaving = leaving_same n ws;
 }
 
 -- ---- one choice
@@ -324,13 +325,11 @@ module _ {g : Rules} {r : RangeSentence} {t : ℕ} {f : Flags} {ws : List ℕ} (
     turn_more = record {
       grown = grown_more u.grown (record {
         kept = x.grown.kept;
-        given =
-            λ v e. ⊎_elim inl (λ y. inr (wider v y)) (x.grown.given v e);
+        given = λ v e. ⊎_elim inl (λ y. inr (wider v y)) (x.grown.given v e);
       });
       below = λ v y l. go v y l (dec_lt (col (token_at y.word t))
           ((range (ranges_of r) t).low.0 + c));
-      leaving =
-          leaving_then u.leaving (subst (λ (n : ℕ). Leaving n ws₁ ws₂) q.count x.leaving);
+      leaving = leaving_then u.leaving (subst (λ (n : ℕ). Leaving n ws₁ ws₂) q.count x.leaving);
     }
       where
         go : (v : Verdict) (y : SomeChoiceGives g (ranges_of r) v)

@@ -100,7 +100,8 @@ fn try_choice(
     requires spread { Spread r × Singles (ranges_of r) × MayRise (ranges_of r) }
     requires count_in_bounds { 2 * pairs r.count ≤ length words.old }
     requires leaved { Leaved (rules_of g) (ranges_of r) r.count words.old }
-    requires to_le_count { (to ≤ r.count) × Behind words.old kept.old (rules_of g) (ranges_of r) r.count
+    requires to_le_count { (to ≤ r.count) × Behind words.old kept.old (rules_of g) (ranges_of r)
+        r.count
         from to }
     ensures searched { Searched (rules_of g) (ranges_of r) r.count f words.old
         words.new result }
@@ -203,7 +204,8 @@ fn search_few(
     requires spread { Spread r }
     requires count_in_bounds { 2 * pairs r.count ≤ length words.old }
     requires leaved { Leaved (rules_of g) (ranges_of r) r.count words.old }
-    requires to_le_count { (to ≤ r.count) × SinglesFrom (ranges_of r) to × SinglesBefore (ranges_of r) from }
+    requires to_le_count { (to ≤ r.count) × SinglesFrom (ranges_of r) to
+        × SinglesBefore (ranges_of r) from }
     requires behind { Behind words.old kept.old (rules_of g) (ranges_of r) r.count from to }
     ensures searched { Searched (rules_of g) (ranges_of r) r.count f words.old
         words.new result }

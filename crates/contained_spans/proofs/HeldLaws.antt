@@ -45,7 +45,8 @@ start_on s f l zero len e h = refl
 start_on s f l (suc m) zero e h = absurd (omega arith)
 start_on s f l (suc m) (suc len) e h = ap (λ (x : ℕ). x + l) h
 
-start_front : (s f l len : ℕ) → l ≤ len → start_of f len ≡ start_of s len → start_of f l ≡ start_of s l
+start_front : (s f l len : ℕ) → l ≤ len → start_of f len ≡ start_of s len
+    → start_of f l ≡ start_of s l
 start_front s f zero len e h = refl
 start_front s f (suc l) zero e h = absurd (omega arith)
 start_front s f (suc l) (suc len) e h = h

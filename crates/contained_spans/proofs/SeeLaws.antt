@@ -36,7 +36,8 @@ mask-of x m = record { holds = x.holds m }
 
 pub hits_made : (cs : List ℕ) (b e : ℕ) (m : BinaryMark) (s len : ℕ) (k : SpanMarks)
     (p q mask : ℕ) → p ≡ b → q ≡ e → MaskBy k s m mask
-    → HitsBy cs b e m s len k (bit_and (bit_and (get_or cs p 0) (get_or cs (64 * (s + len) + q) 0)) mask)
+    → HitsBy cs b e m s len k (bit_and (bit_and (get_or cs p 0) (get_or cs (64 * (s + len) + q) 0))
+    mask)
 hits_made cs b e m s len k p q mask x y z = record {
   mask = mask;
   by = z;
@@ -122,7 +123,8 @@ seen_columns_kept f s = record {
 }
 
 pub seen_kept : {rs rs' sn : List ℕ} {n s : ℕ}
-    → ((q B : ℕ) → In (get_or rs q 0) B → In (get_or rs' q 0) B) → SeenAt n s rs sn → SeenAt n s rs' sn
+    → ((q B : ℕ) → In (get_or rs q 0) B → In (get_or rs' q 0) B) → SeenAt n s rs sn
+    → SeenAt n s rs' sn
 seen_kept f s = record {
   columns = seen_columns_kept f s.columns;
   first = λ B c l i. f _ B (s.first B c l i);

@@ -69,7 +69,8 @@ trying_begin ws g n s len k {rs' = rs'} {done = done} a h l x b =
     (tells_none (λ p q. f.skips p.place (omega arith) q.0 q.1.within q.1.left))
 
 -- one rule more
-pub trying_turn : {ws : List ℕ} {g : Rules} {n s len : ℕ} {k : SpanMarks} {rs rs' rs'' sn l : List ℕ}
+pub trying_turn : {ws : List ℕ} {g : Rules} {n s len : ℕ} {k : SpanMarks}
+    {rs rs' rs'' sn l : List ℕ}
     {done ps a count i r count' : ℕ} → i < length g → Listed g l
     → Trying ws g n s len k rs rs' done ps a count i
     → ClauseSpread ws n s len k (rule g i).clause rs' rs'' sn r → Plus count r count'

@@ -38,7 +38,8 @@ RuleKids ws n s len k A r q B = (r.left ≡ A) × ClauseKids ws n s len k r.clau
 
 -- beneath some choice of A
 abbrev pub ChoiceKids : List ℕ → Rules → ℕ → ℕ → ℕ → SpanMarks → ℕ → ℕ → ℕ → Type 0
-ChoiceKids ws g n s len k A q B = (i : ℕ) × (l : ℕ) × Stand (One ws n) g (by_marks k len) s len A i l
+ChoiceKids ws g n s len k A q B =
+    (i : ℕ) × (l : ℕ) × Stand (One ws n) g (by_marks k len) s len A i l
     × Kid n s len (rule g i).clause l q B
 
 -- a member of set that is not in done

@@ -476,7 +476,8 @@ fn begin(reach: &mut [u64], n: usize)
 pub fn find_places(words: &[u64], s: Sentence, g: Grammar, parts: &mut [u64])
     requires count_bound { (s.count ≤ 64) × (pairs s.count ≤ length parts.old) }
     requires formed { Formed g }
-    requires span_sheet { SpanSheet (rules_of g) (spelled s) words.now × Derives (rules_of g) 0 (spelled s) }
+    requires span_sheet { SpanSheet (rules_of g) (spelled s) words.now
+        × Derives (rules_of g) 0 (spelled s) }
     ensures { PlaceWords (rules_of g) (spelled s) parts.new }
 {
     let n = s.count;

@@ -35,7 +35,8 @@ use Rattle.doubt_list.specs.Steps.{doubt}
 fits : {g : Rules} {σ : Setting} {x y : Head} → Might g (stand σ x y) → FitIn g σ x y
 fits (two_nodes f l n x y h a b) = h
 
-rule_of : {g : Rules} {A : ℕ} {s : Shape} {f : Form} → HasForm g A s f → RuleOf g (rule_of_shape s) A
+rule_of : {g : Rules} {A : ℕ} {s : Shape} {f : Form} → HasForm g A s f
+    → RuleOf g (rule_of_shape s) A
 rule_of (tips i r) = record { rule = _; stands = r; left = refl }
 rule_of (units i r p) = record { rule = _; stands = r; left = refl }
 rule_of (twos i r p q) = record { rule = _; stands = r; left = refl }

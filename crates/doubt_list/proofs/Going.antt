@@ -50,7 +50,8 @@ module _ {g : Grammar} {s : Sets} {t : List ℕ} (z : Ground g s t) where
           omega (arith, a, e, i, o.last, c, why_small d.why)
 
   pub skip_rule : {old : List ℕ} {l : Listing} (A p : ℕ) → p < 128 → l.count ≤ l.at
-      → (RuleOf (rules_of g) p A → ⊥) → Lists (rules_of g) old old l l (at A p 0 0) (at A (p + 1) 0 0)
+      → (RuleOf (rules_of g) p A → ⊥)
+      → Lists (rules_of g) old old l l (at A p 0 0) (at A (p + 1) 0 0)
   skip_rule A p k h n = lists_skip z.formed _ _ h (omega arith) none
     where
       none : (d : Doubt) → OfRules g d → Doubted (rules_of g) d → at A p 0 0 ≤ doubt_number d
@@ -133,7 +134,8 @@ module _ {g : Grammar} {s : Sets} {t : List ℕ} (z : Ground g s t) where
       few' : q < 128
       few' = omega (arith, n, z.formed.few)
 
-      none_between : (d : Doubt) → OfRules g d → Doubted (rules_of g) d → at A p q 1 ≤ doubt_number d
+      none_between : (d : Doubt) → OfRules g d → Doubted (rules_of g) d
+          → at A p q 1 ≤ doubt_number d
           → doubt_number d < at A p q 2 → ⊥
       none_between d o x i j =
           let a : d.nonterminal ≡ A = omega

@@ -144,7 +144,8 @@ module _ {g : Grammar} (f : Formed g) where
 
   -- no doubt has a number from m on and below n
   pub lists_skip : {out : List ℕ} {l : Listing} (m n : ℕ) → l.count ≤ l.at → m ≤ n
-      → ((d : Doubt) → OfRules g d → Doubted (rules_of g) d → m ≤ doubt_number d → doubt_number d < n
+      → ((d : Doubt) → OfRules g d → Doubted (rules_of g) d → m ≤ doubt_number d
+      → doubt_number d < n
       → ⊥) → Lists (rules_of g) out out l l m n
   lists_skip m n h k none =
       record {

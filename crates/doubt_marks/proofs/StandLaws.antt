@@ -259,7 +259,8 @@ standing {g} {ns} {t} {f} {i} {j} so a b m =
       next = λ p. val (rank_of f p);
       may =
           may_stand g t f a.head b.head (node_at ns i) (node_at ns j) a.node b.node
-          (words_at t (node_at ns i) (node_at ns j) i j) ws (nexts_at t f (node_at ns i) (node_at ns j))
+          (words_at t (node_at ns i) (node_at ns j) i j) ws
+          (nexts_at t f (node_at ns i) (node_at ns j))
           (nexts_are t f (node_at ns i) (node_at ns j)) so m.suits s.six s.even
           s.leaves val
           (value_good f (node_at ns i) (node_at ns j) (nexts_at t f (node_at ns i) (node_at ns j))
@@ -365,7 +366,8 @@ child_in : (h : Form) (v : Node) {C : ℕ} → v.kids ≡ kid_count h → v.firs
     → Memᴰ C (children h) → ChildOf v C
 child_in (tip _ _) v {C = C} e a b x6 = elim x6 [ ]
 child_in (one B l k) v {C = C} e a b (mathlib.Core.List.Memᴰ.tail x9) = elim x9 [ ]
-child_in (two B D k l) v {C = C} e a b (mathlib.Core.List.Memᴰ.tail (mathlib.Core.List.Memᴰ.tail x14)) = elim x14 [ ]
+child_in (two B D k l) v {C = C} e a b
+    (mathlib.Core.List.Memᴰ.tail (mathlib.Core.List.Memᴰ.tail x14)) = elim x14 [ ]
 child_in (one B l k) v e a b (Memᴰ.head d) = inl (omega arith, a ∙ sym d)
 child_in (two B D k l) v e a b (Memᴰ.head d) = inl (omega arith, a ∙ sym d)
 child_in (two B D k l) v e a b (Memᴰ.tail (Memᴰ.head d)) = inr (omega arith, b ∙ sym d)

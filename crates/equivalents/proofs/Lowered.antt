@@ -88,7 +88,8 @@ clears_rest : (L l : ℕ) (cs : List Cell) → L ≤ l → Every (Clears L) (pla
 clears_rest L l [] h = tt
 clears_rest L l (c ∷ cs) h = (inr (omega arith), clears_rest L (l + c.step) cs (omega arith))
 
-clears : (l p : ℕ) (cs : List Cell) → TwoAt p cs → Every (Clears (line_of_token l p cs)) (placed l cs)
+clears : (l p : ℕ) (cs : List Cell) → TwoAt p cs
+    → Every (Clears (line_of_token l p cs)) (placed l cs)
 clears l p [] h = absurd h
 clears l zero (c ∷ cs) h =
     (inr (omega arith), clears_rest (l + c.step) (l + c.step) cs (omega arith))
@@ -184,8 +185,7 @@ twin_less {g} {s} {n} {p} {ds} m h t =
     record {
       cells = t.cells;
       candidate = t.candidate;
-      kept =
-          shares_less m p t.cells ds h t.kept;
+      kept = shares_less m p t.cells ds h t.kept;
       before = t.before;
       two = t.two;
     }

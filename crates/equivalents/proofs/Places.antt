@@ -30,4 +30,5 @@ module _ (P : Cell → Type 0) where
 
   pub at_cells : (c : Candidate) (p n : ℕ) → p < n → P (cell_at c p) → At P p (cells c 0 n)
   at_cells c p n h e =
-      at_from c 0 p n h (subst (λ (x : ℕ). P (cell_at c x)) (let z : p ≡ 0 + p = omega arith in z) e)
+      at_from c 0 p n h (subst (λ (x : ℕ). P (cell_at c x)) (let z : p ≡ 0 + p = omega arith in z)
+      e)

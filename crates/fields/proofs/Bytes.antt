@@ -26,7 +26,8 @@ module _ (a b : List ℕ) (i : ℕ) where
 
   pub same_differ : i < length a → i < length b → (get_or a i 0 ≡ get_or b i 0 → ⊥)
       → same_bytes (drop i a) (drop i b) ≡ false
-  same_differ h k d = rw (drop-cons a i 0 h, drop-cons b i 0 k, ne_eqb (get_or a i 0) (get_or b i 0) d)
+  same_differ h k d =
+      rw (drop-cons a i 0 h, drop-cons b i 0 k, ne_eqb (get_or a i 0) (get_or b i 0) d)
 
   pub same_more : i < length a → i < length b → get_or a i 0 ≡ get_or b i 0
       → same_bytes (drop i a) (drop i b) ≡ same_bytes (drop (i + 1) a) (drop (i + 1) b)

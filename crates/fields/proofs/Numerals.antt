@@ -21,7 +21,8 @@ digits_low f v i h l = rw (drop-cons f i 0, lt-leb 48 (get_or f i 0) l)
 
 pub digits_high : (f : List ℕ) (v i : ℕ) → i < length f → 48 ≤ get_or f i 0 → 57 < get_or f i 0
     → digits_of v (drop i f) ≡ none
-digits_high f v i h l u = rw (drop-cons f i 0, le-leb 48 (get_or f i 0) l, lt-leb (get_or f i 0) 57 u)
+digits_high f v i h l u =
+    rw (drop-cons f i 0, le-leb 48 (get_or f i 0) l, lt-leb (get_or f i 0) 57 u)
 
 pub digits_more : (f : List ℕ) (v i : ℕ) → i < length f → 48 ≤ get_or f i 0 → get_or f i 0 ≤ 57
     → digits_of v (drop i f) ≡ digits_of (v * 10 + (get_or f i 0 - 48)) (drop (i + 1) f)

@@ -30,7 +30,8 @@ module _ {R : Type 0} (bad : R) (k : ℕ → List (List ℕ) → R) (s : List �
       → NumberField.Is v d ≡ number_field_of (read_field numeral_of c (fields_left s c))
       → (with_field bad numeral_of (fields_left s c) k ≡ k v (fields_left s d)) × (d.end ≡ c.end)
   number_good v d e =
-      with_good bad numeral_of k s c d v (number_is (read_field numeral_of c (fields_left s c)) v d e)
+      with_good bad numeral_of k s c d v
+      (number_is (read_field numeral_of c (fields_left s c)) v d e)
 
   pub number_bad : NumberField.Bad ≡ number_field_of (read_field numeral_of c (fields_left s c))
       → with_field bad numeral_of (fields_left s c) k ≡ bad

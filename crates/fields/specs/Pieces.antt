@@ -1,4 +1,5 @@
--- Lines and fields: a sheet's bytes, parted by byte 10 and by byte 32. 01, "The two sheets".
+-- Lines and fields: a sheet's bytes, parted by byte 10 and by byte 32. docs/FORMAT.md, "Bytes,
+-- lines, fields, numbers".
 use Rattle.std.specs.Prelude.{ℕ, List, [], ◌∷◌, Bool, true, false, cond, ◌&&◌, eqb}
 
 -- the pieces that bytes b part s into: one more than there are bytes b, empty ones too.

@@ -1,5 +1,7 @@
--- What a field may be: a number, a kind letter, a lay word, `-`. 01, "The two sheets".
-use Rattle.std.specs.Prelude.{ℕ, ◌+◌, ◌-◌, ◌*◌, List, [], ◌∷◌, Bool, true, false, cond, ◌&&◌, length, leb}
+-- What a field may be: a number, a kind letter, a lay word, `-`. docs/FORMAT.md, "Bytes, lines,
+-- fields, numbers".
+use Rattle.std.specs.Prelude.{ℕ, ◌+◌, ◌-◌, ◌*◌, List, [], ◌∷◌, Bool, true, false, cond, ◌&&◌}
+use Rattle.std.specs.Prelude.{length, leb}
 use Rattle.std.proofs.Math.Option.{Option, none, some}
 use Rattle.fields.specs.declared.Operand.{Operand}
 use Rattle.fields.specs.declared.Kind.{Kind}

@@ -113,7 +113,8 @@ cut_joined ws ws' g h n s len k distinct known fit long marked ground j = record
 }
 
 -- the pair of the empty word is not written
-pub empty_kept : {ws ws' : List ℕ} {e : Pair} (n s len : ℕ) → 0 < len → Kept ws ws' (pair_at n s len)
+pub empty_kept : {ws ws' : List ℕ} {e : Pair} (n s len : ℕ) → 0 < len
+    → Kept ws ws' (pair_at n s len)
     → Begins ws e → Begins ws' e
 empty_kept n s len pos k b = record {
   one = k.rest 0 (omega (arith, pair_at_of n s len pos)) (omega (arith, pair_at_of n s len pos))
@@ -172,8 +173,7 @@ ending h m = record { size = m.long; each = mirrors_end h m }
 pub no_columns : (ws : List ℕ) (n m : ℕ) → 128 * (n + 1) ≤ m → Columns ws n n (replicate m 0)
 no_columns ws n m h = record {
   size = omega (arith, length-replicate {A = ℕ} m 0);
-  each =
-      columns_none ws n (replicate m 0) (zeros m);
+  each = columns_none ws n (replicate m 0) (zeros m);
 }
   where
     zeros : (k q : ℕ) → get_or {A = ℕ} (replicate k 0) q 0 ≡ 0

@@ -17,7 +17,8 @@ use Rattle.marks.specs.Half.{Half}
 use Rattle.marks.specs.Marked.{Marked, UnaryBy}
 use Rattle.spans.specs.Changes.{WrotePair}
 use Rattle.spans.proofs.Places.{pair_at_same, pair_at_empty}
-use Rattle.tables.specs.Tables.{Table, One, Two, by_tokens, by_marks, Fits, Stand, Below, Again, rule}
+use Rattle.tables.specs.Tables.{Table, One, Two, by_tokens, by_marks, Fits, Stand, Below, Again}
+use Rattle.tables.specs.Tables.{rule}
 use Rattle.tables.specs.Tables.Again.{apart, below}
 use Rattle.tables.specs.Settled.{Settled, Ground}
 use Rattle.tables.proofs.Soundness.{sound_stand, sound_again}
@@ -142,7 +143,8 @@ module _ (ws : List ℕ) (g : Rules) (n s len : ℕ) (k : SpanMarks) (p : Pair) 
           (rule g i).clause l B x.over d;
     }
 
-    part_fits : (l : ℕ) → 0 < l → l < len → (c : Clause) → Fits (One ws n) (by_marks k len) s len c l
+    part_fits : (l : ℕ) → 0 < l → l < len → (c : Clause)
+        → Fits (One ws n) (by_marks k len) s len c l
         → Fits Truth (by_tokens h s len) s len c l
     part_fits l x y Clause.Empty q = absurd (omega (arith, q.1))
     part_fits l x y (Clause.Atom a b) q = absurd (omega (arith, q.1))
@@ -277,8 +279,7 @@ module _ (ws : List ℕ) (g : Rules) (n s len : ℕ) (k : SpanMarks) (p : Pair) 
       stand = record {
         within = c.within;
         left = c.left;
-        fits =
-            parted_fits l x y (rule g i).clause c.fits;
+        fits = parted_fits l x y (rule g i).clause c.fits;
       };
     }
 
@@ -291,7 +292,8 @@ module _ (ws : List ℕ) (g : Rules) (n s len : ℕ) (k : SpanMarks) (p : Pair) 
       pub has : In t.one over
       pub low : Below (Two ws' n) s len c l → In t.two over ⊎ Beside (get_or ws 1 0) c side
 
-    wide : (c : Clause) (l : ℕ) → Fits (One ws' n) (by_marks k len) s len c l → (0 < l → l < len → ⊥)
+    wide : (c : Clause) (l : ℕ) → Fits (One ws' n) (by_marks k len) s len c l
+        → (0 < l → l < len → ⊥)
         → Wide c l
     wide Clause.Empty l q out = absurd (omega (arith, q.0))
     wide (Clause.Atom a b) l q out = absurd (omega (arith, q.0))
@@ -300,8 +302,7 @@ module _ (ws : List ℕ) (g : Rules) (n s len : ℕ) (k : SpanMarks) (p : Pair) 
       over = B;
       place = sym q.2;
       link = (refl, q.1);
-      has =
-          to B w.first q.0;
+      has = to B w.first q.0;
       low = λ b. inl (to B w.second b);
     }
     wide (Clause.Binary B C m) l q out = go (ℕ_discrete l 0)

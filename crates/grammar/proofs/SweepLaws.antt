@@ -89,7 +89,7 @@ sentence_wide l [] = tt
 sentence_wide l (c ∷ cs) = (omega arith, sentence_wide (l + c.step) cs)
 
 module _ {g : Rules} where
-  -- demand 3: where no candidate of 1 to k tokens has two trees, no rising sequence has
+  -- where no candidate of 1 to k tokens has two trees, no rising sequence has
   pub clear_of : (k : ℕ) → ((cs : List Cell) → 1 ≤ length cs → length cs ≤ k
       → Candidate (Terminal g) (length cs) cs → TwoTrees g 0 (sentence cs) → ⊥) → Clear g k
   clear_of k none = record { absent = λ w s r l u two. go w (normal g 0 w l s r two) l u }

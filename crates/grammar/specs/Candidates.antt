@@ -1,4 +1,5 @@
--- Rising sequences, the sweep's candidates and their order: 01, "The two sheets" and "The sweep".
+-- Rising sequences, the sweep's candidates and their order: docs/FORMAT.md, "The token sheet" and
+-- "The sweep".
 use Rattle.std.specs.Prelude.{◌≡◌, List, [], ◌∷◌, ◌⊎◌, ℕ, ◌+◌, ◌≤◌, ◌<◌, length}
 use Rattle.grammar.specs.declared.Token.{Token}
 use Rattle.grammar.specs.declared.Cell.{Cell}

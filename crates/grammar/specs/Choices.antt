@@ -1,5 +1,5 @@
--- Choices, the first tree and the second tree: 01, "Trees, choices, span sheet"; on a looping sheet
--- 02, "Rules that loop".
+-- Choices, the first tree and the second tree: docs/FORMAT.md, "Trees and choices"; on a looping
+-- sheet "Looping sheets".
 use Rattle.std.specs.Prelude.{◌≡◌, ◌⊎◌, ℕ, suc, ◌≤◌, ◌<◌, max, length}
 use Rattle.std.proofs.Math.Option.{some}
 use Rattle.std.proofs.Math.ListN.{get_elem?}

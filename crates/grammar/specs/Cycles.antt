@@ -1,4 +1,4 @@
--- Nullable nonterminals, edges, chains and cyclic sheets: 01, "Trees, choices, span sheet".
+-- Nullable nonterminals, edges, chains and cyclic sheets: docs/FORMAT.md, "Looping sheets".
 use Rattle.std.specs.Prelude.{[], ℕ}
 use Rattle.grammar.specs.declared.UnaryMark.{UnaryMark}
 use Rattle.grammar.specs.declared.BinaryMark.{BinaryMark}

@@ -1,4 +1,4 @@
--- Words and the layout marks on words: 01, "Layout marks"; source document 000, Fig. 2.
+-- Words and the layout marks on words: docs/FORMAT.md, "Layout marks"; the paper, Fig. 2.
 use Rattle.std.specs.Prelude.{◌≡◌, List, [], ◌∷◌, ℕ, ◌+◌, ◌≤◌, ◌<◌}
 use Rattle.grammar.specs.declared.Token.{Token}
 use Rattle.grammar.specs.declared.UnaryMark.{UnaryMark}

@@ -1,4 +1,4 @@
--- The rows of a tree: 01, "Trees, choices, span sheet", last paragraph.
+-- The rows of a tree: docs/FORMAT.md, "Tree rows".
 use Rattle.std.specs.Prelude.{List, [], ◌∷◌, ◌++◌, ℕ, zero, suc, ◌+◌, length}
 use Rattle.grammar.specs.Trees.{Tree, empty, leaf, unary, binary, word}
 

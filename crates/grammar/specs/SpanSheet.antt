@@ -1,5 +1,6 @@
--- The span sheet: 01, "Trees, choices, span sheet".
-use Rattle.std.specs.Prelude.{List, ◌↔◌, ℕ, zero, suc, ◌+◌, ◌-◌, ◌*◌, ◌/◌, ◌≤◌, ◌<◌, length, get_or, take, drop}
+-- The span sheet: docs/FORMAT.md, "The span sheet".
+use Rattle.std.specs.Prelude.{List, ◌↔◌, ℕ, zero, suc, ◌+◌, ◌-◌, ◌*◌, ◌/◌, ◌≤◌, ◌<◌, length, get_or}
+use Rattle.std.specs.Prelude.{take, drop}
 use Rattle.sets.specs.Sets.{In}
 use Rattle.grammar.specs.Layout.{Word}
 use Rattle.grammar.specs.Trees.{Rules, Derives, TwoTrees}

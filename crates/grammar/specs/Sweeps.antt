@@ -1,6 +1,7 @@
--- What a sweep up to the bound k says: 01, "The sweep" (demand 3), and the number that refusal 24
+-- What a sweep up to the bound k says: docs/FORMAT.md, "The sweep", and the number that refusal 24
 -- judges.
-use Rattle.std.specs.Prelude.{Bool, false, cond, ◌||◌, ◌&&◌, List, [], ◌∷◌, ℕ, zero, suc, ◌+◌, ◌-◌, ◌*◌, ◌^◌, ◌≤◌, length, leb}
+use Rattle.std.specs.Prelude.{Bool, false, cond, ◌||◌, ◌&&◌, List, [], ◌∷◌, ℕ, zero, suc, ◌+◌, ◌-◌}
+use Rattle.std.specs.Prelude.{◌*◌, ◌^◌, ◌≤◌, length, leb}
 use Rattle.grammar.specs.declared.Cell.{Cell}
 use Rattle.grammar.specs.declared.Clause.{Clause}
 use Rattle.grammar.specs.Layout.{Word}

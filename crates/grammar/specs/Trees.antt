@@ -1,4 +1,4 @@
--- Trees, their words and their validity: source document 000, section 3, "Parse trees" and
+-- Trees, their words and their validity: the paper, section 3, "Parse trees" and
 -- "Derivation ambiguity".
 use Rattle.std.specs.Prelude.{◌≡◌, ℕ, ◌≤◌}
 use mathlib.Core.List.{List, [], ◌∷◌, ◌++◌, Memᴰ}

@@ -58,7 +58,7 @@ pub struct Token {
     pub width: Width,
 }
 
-// The marks that a U rule may have, by 01's words: none, offside, offalign, single.
+// The marks that a U rule may have, by the sheets' words: none, offside, offalign, single.
 #[derive(Clone, Copy)]
 pub enum UnaryMark {
     None,
@@ -67,7 +67,7 @@ pub enum UnaryMark {
     Single,
 }
 
-// The marks that a B rule may have, by 01's words: none, align, indent.
+// The marks that a B rule may have, by the sheets' words: none, align, indent.
 #[derive(Clone, Copy)]
 pub enum BinaryMark {
     None,
@@ -75,8 +75,8 @@ pub enum BinaryMark {
     Indent,
 }
 
-// What stands at the right of a rule, by 01's kinds: E, A, U, B. An A rule stands for the terminals
-// from its first to its second number.
+// What stands at the right of a rule, by the sheets' kinds: E, A, U, B. An A rule stands for the
+// terminals from its first to its second number.
 #[derive(Clone, Copy)]
 pub enum Clause {
     Empty,

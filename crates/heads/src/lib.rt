@@ -113,7 +113,8 @@ fn form_by(kind: u8, nulls: u64, prods: u64, l: UnaryMark, c: Clause) -> Looks
 // The shape of this kind of the rule at p.
 pub fn head_of(g: Grammar, nulls: u64, prods: u64, levels: Levels, kind: u8, p: usize) -> Shaped
     requires formed { Formed g × (p < g.count) }
-    requires exactly { Exactly nulls (Nullable (rules_of g)) × Exactly prods (Productive (rules_of g))
+    requires exactly { Exactly nulls (Nullable (rules_of g))
+        × Exactly prods (Productive (rules_of g))
         × LevelsOf (rules_of g) levels }
     ensures { ShapedAs (rules_of g) (shape_by kind p) result }
 {

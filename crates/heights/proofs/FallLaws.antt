@@ -93,8 +93,7 @@ module _ {g : Rules} {v : Leave} {n start len : ℕ} (lefts : Lefts g) where
       (record {
         few = r.few;
         fits = r.fits;
-        long =
-            length-set l (2081 * (rule g i).left + pair_at n start len) h ∙ r.long;
+        long = length-set l (2081 * (rule g i).left + pair_at n start len) h ∙ r.long;
       }) f
 
   -- no number rises
@@ -105,8 +104,7 @@ module _ {g : Rules} {v : Leave} {n start len : ℕ} (lefts : Lefts g) where
       let r' : Room (set l (2081 * (rule g i).left + pair_at n start len) h) n start len = record {
         few = r.few;
         fits = r.fits;
-        long =
-            length-set l (2081 * (rule g i).left + pair_at n start len) h ∙ r.long;
+        long = length-set l (2081 * (rule g i).left + pair_at n start len) h ∙ r.long;
       } in
       omega (
         arith,
@@ -123,8 +121,7 @@ module _ {g : Rules} {v : Leave} {n start len : ℕ} (lefts : Lefts g) where
       let r' : Room (set l (2081 * (rule g i).left + pair_at n start len) h) n start len = record {
         few = r.few;
         fits = r.fits;
-        long =
-            length-set l (2081 * (rule g i).left + pair_at n start len) h ∙ r.long;
+        long = length-set l (2081 * (rule g i).left + pair_at n start len) h ∙ r.long;
       } in
       falls_rest r' f a b B q z ∙ put_rest l n start len (rule g i).left h r.few r.fits a b B
       q z
@@ -143,8 +140,7 @@ module _ {g : Rules} {v : Leave} {n start len : ℕ} (lefts : Lefts g) where
     falls = stays;
     fell = λ e. absurd (clash cc);
     same = λ e. refl;
-    tried =
-        λ i k h d t. absurd (f i k h d t);
+    tried = λ i k h d t. absurd (f i k h d t);
   }
 
   pub passed_then : {l m o : List ℕ} {a b r : Bool} (D E F : ℕ → ℕ → Type 0) → Room l n start len
@@ -241,8 +237,7 @@ pub shut_of : {g : Rules} {v : Leave} {n start len : ℕ} {l m o : List ℕ} {r 
 shut_of {g} {v} {n} {start} {len} {l} {m} {o} lefts room x y =
     record {
       falls = falls_then lefts x.falls y.falls;
-      closed =
-          λ i k h b t. go i k h b t (ℕ_discrete k 0) (dec_lt k len);
+      closed = λ i k h b t. go i k h b t (ℕ_discrete k 0) (dec_lt k len);
     }
   where
     same : (a b B : ℕ) → a + b ≤ start + len → b < len → table o n a b B ≡ table l n a b B
@@ -289,8 +284,7 @@ module _ {hs : ℕ → ℕ → ℕ → ℕ} {v : Leave} {s len l : ℕ} where
       → b ≡ hs (s + l) (len - l) C → Over a b r → Measured hs v s len (Clause.Binary B C m) l r
   measured_binary B C m a b r e h p q u = record {
     is = λ x. (e, h, u.is x ∙ ap₂ (λ (y z : ℕ). suc (max y z)) p q);
-    low =
-        λ k t. omega (arith, u.low, t.2);
+    low = λ k t. omega (arith, u.low, t.2);
   }
 
 -- ---- the left lengths of a clause, one after the other
@@ -498,7 +492,8 @@ split_none {v} {n} {start} {len} {l} r small {c} e w =
     (subst (λ (i : ℕ). Tall (table l n) v start len (rule (r ∷ []) i).clause q h) d.0 t))
 
 -- what stands for the missing is no more than a number
-pub few_numbers : (l : List ℕ) → ((i : ℕ) → get_or l i 0 ≤ 65535) → (i : ℕ) → get_or l i 65535 ≤ 65535
+pub few_numbers : (l : List ℕ) → ((i : ℕ) → get_or l i 0 ≤ 65535) → (i : ℕ)
+    → get_or l i 65535 ≤ 65535
 few_numbers l f i = go (dec_lt i (length l))
   where
     go : Dec (i < length l) → get_or l i 65535 ≤ 65535

@@ -27,7 +27,7 @@ pub row_of : {l : List ℕ} {g : Rules} {w : Word} {start len : ℕ} → Filled 
 row_of {l} {g} {w} {start} {len} f b =
     record {
       room = record { few = f.few; fits = b; long = f.long };
-      ground = f.ground;
+      grounded = f.grounded;
       less = λ a c B q r h. omega (arith, (f.done a c q (inl r)).small B h);
       small = small_none no_height (64 * len) (table l (length w) start len)
           (λ B. f.fresh start len B b (λ e. ⊎_elim (λ x. omega arith) (λ x. omega (arith, x.1))
@@ -57,7 +57,7 @@ filled_on {l} {m} {g} {w} {start} {len} lefts pos fit f x =
     record {
       few = f.few;
       long = row.room.long;
-      ground = row.ground;
+      grounded = row.grounded;
       done = done;
       fresh =
           fresh;
@@ -114,7 +114,7 @@ filled_row {l} {g} {w} {start} {len} past f =
     record {
       few = f.few;
       long = f.long;
-      ground = f.ground;
+      grounded = f.grounded;
       done = λ a b h d. f.done a b h (go a b h (dec_lt b len) d);
       fresh = λ a b B h n. f.fresh a b B h
           (λ d. n (⊎_elim (λ y. inl (omega arith)) (λ y. inl (omega (arith, y.0))) d));
@@ -157,7 +157,7 @@ filled_first {l} {m} {g} {w} lefts f x =
     record {
       few = f.few;
       long = row.room.long;
-      ground = row.ground;
+      grounded = row.grounded;
       done = done;
       fresh =
           fresh;
@@ -203,7 +203,7 @@ filled_none {l} {g} {w} few long z =
     record {
       few = few;
       long = long;
-      ground = record {
+      grounded = record {
         each = λ a b A h t. absurd
             (omega (arith, z (2081 * A + pair_at (length w) a b)));
       };
@@ -223,7 +223,7 @@ filled_right {l} {g} {w} f =
     right : RightHeights (table l (length w)) g w 65533
     right =
         record {
-          sound = λ a b A h n. f.ground.each a b A h (omega arith);
+          sound = λ a b A h n. f.grounded.each a b A h (omega arith);
           closed = λ a b i k h q x t. (within a b q).closed i k h x t;
           gap = λ a b A h n. omega (arith, (within a b h).small A (omega arith), f.few);
         }

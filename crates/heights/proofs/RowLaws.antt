@@ -107,7 +107,7 @@ shut_by {g} {s} {len} {l} {m} {o} {r} w k n c e f lefts =
 
 pub record Row (l : List ℕ) (g : Rules) (w : Word) (start len : ℕ) : Type 0 where
   pub room : Room l (length w) start len
-  pub ground : Grounded l g w
+  pub grounded : Grounded l g w
   pub less : (a b B : ℕ) → a + b ≤ length w → b < len → table l (length w) a b B < no_height
       → table l (length w) a b B ≤ 64 * len
   pub small : Small no_height (64 * len) (table l (length w) start len)
@@ -129,7 +129,7 @@ module _ {l : List ℕ} {g : Rules} {w : Word} {start len : ℕ} (lefts : Lefts 
   row_put i k h b t n d =
       record {
         room = record { few = few; fits = fits; long = length-set l _ h ∙ x.room.long };
-        ground = record { each = ground };
+        grounded = record { each = grounded };
         less = λ a b B q r. less a b B q r;
         small = small_put no_height (lefts i b) put' x.small
             (tall_low (table l (length w)) (by_word w start len) no_height start len
@@ -146,17 +146,18 @@ module _ {l : List ℕ} {g : Rules} {w : Word} {start len : ℕ} (lefts : Lefts 
 
       shorter : (a b' B : ℕ) → a + b' ≤ start + len → b' < len
           → table l (length w) a b' B < no_height
-          → table l (length w) a b' B ≤ 64 * len + row_placed no_height (table l (length w) start len)
+          → table l (length w) a b' B ≤ 64 * len + row_placed no_height
+          (table l (length w) start len)
       shorter a b' B u q r = omega (arith, x.less a b' B (omega (arith, fits)) q r)
 
-      ground : (a b' B : ℕ) → a + b' ≤ length w → table m (length w) a b' B < no_height
+      grounded : (a b' B : ℕ) → a + b' ≤ length w → table m (length w) a b' B < no_height
           → (t : Tree) × Witness g B (part w a b') t × (height t ≤ table m (length w) a b' B)
-      ground a b' B q r = go (ℕ_discrete (pair_at (length w) a b') (pair_at (length w) start len))
+      grounded a b' B q r = go (ℕ_discrete (pair_at (length w) a b') (pair_at (length w) start len))
           (ℕ_discrete B (rule g i).left)
         where
           old : table m (length w) a b' B ≡ table l (length w) a b' B
               → (t : Tree) × Witness g B (part w a b') t × (height t ≤ table m (length w) a b' B)
-          old e = let y = x.ground.each a b' B q (omega arith) in
+          old e = let y = x.grounded.each a b' B q (omega arith) in
               (y.0, y.1, omega (arith, e, y.2))
 
           same_part : pair_at (length w) a b' ≡ pair_at (length w) start len
@@ -167,7 +168,8 @@ module _ {l : List ℕ} {g : Rules} {w : Word} {start len : ℕ} (lefts : Lefts 
               (λ n. ap (part w start) (sym z.0 ∙ n) ∙ sym (ap (part w a) n))
               (λ n. ap₂ (part w) (sym n) (sym z.0)) z.1
 
-          go : Dec (pair_at (length w) a b' ≡ pair_at (length w) start len) → Dec (B ≡ (rule g i).left)
+          go : Dec (pair_at (length w) a b' ≡ pair_at (length w) start len)
+              → Dec (B ≡ (rule g i).left)
               → (t : Tree) × Witness g B (part w a b') t × (height t ≤ table m (length w) a b' B)
           go (no e) d = old (put_rest l (length w) start len (rule g i).left h few fits a b' B q e)
           go (yes e) (no d) =
@@ -178,7 +180,7 @@ module _ {l : List ℕ} {g : Rules} {w : Word} {start len : ℕ} (lefts : Lefts 
               old (u ∙ put'.rest B d ∙ sym v)
           go (yes e) (yes d) =
               let y = grown (table l (length w)) g w 65534
-              (λ a b A q r. x.ground.each a b A q (omega arith)) start len i k h fits b t
+              (λ a b A q r. x.grounded.each a b A q (omega arith)) start len i k h fits b t
               (omega arith) in
               let u : table m (length w) a b' B ≡ h =
               ap₂ (λ (z C : ℕ). get_or m (2081 * C + z) 65535) e d ∙ put'.here in (

@@ -168,7 +168,8 @@ module _ (hs : Heights) (g : Rules) (w : Word) (most : ℕ)
     (sound : (s len A : ℕ) → s + len ≤ length w → hs s len A ≤ most
     → (t : Tree) × Witness g A (part w s len) t × (height t ≤ hs s len A)) where
   grow : (s len A p l h : ℕ) (c : Clause) → s + len ≤ length w
-      → get_elem? g p ≡ some (record { left = A; clause = c }) → Tall hs (by_word w s len) s len c l h
+      → get_elem? g p ≡ some (record { left = A; clause = c })
+      → Tall hs (by_word w s len) s len c l h
       → h ≤ suc most → (t : Tree) × Witness g A (part w s len) t × (height t ≤ h)
   grow s len A p l h Clause.Empty b st q n = (
     empty A,
@@ -286,8 +287,7 @@ module _ {hs : Heights} {g : Rules} {w : Word} {most : ℕ} (r : RightHeights hs
         tree = t.0;
         witness = t.1;
         high = omega (arith, t.2, low t.0 t.1);
-        lowest =
-            low;
+        lowest = low;
       }
 
 -- what stands on numbers of the span's own row and of shorter spans is small

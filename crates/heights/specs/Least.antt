@@ -1,5 +1,5 @@
--- Least heights, and the numbers that hold them for each span and nonterminal: 02, "Rules that
--- loop".
+-- Least heights, and the numbers that hold them for each span and nonterminal: docs/FORMAT.md,
+-- "Looping sheets".
 use Rattle.std.specs.Prelude.{◌≡◌, List, ℕ, ◌+◌, ◌*◌, ◌≤◌, length, get_or}
 use Rattle.grammar.specs.Layout.{Word}
 use Rattle.grammar.specs.Trees.{Tree, Rules, Witness, Derives}

@@ -3,7 +3,8 @@
 // are lowered until no rule stands lower.
 #![tactic(auto)]
 
-ghost use Rattle.std.specs.Prelude.{◌≡◌, true, [], ◌∷◌, ◌+◌, ◌-◌, ◌*◌, ◌≤◌, ◌<◌, min, length, replicate};
+ghost use Rattle.std.specs.Prelude.{◌≡◌, true, [], ◌∷◌, ◌+◌, ◌-◌, ◌*◌, ◌≤◌, ◌<◌, min, length};
+ghost use Rattle.std.specs.Prelude.{replicate};
 ghost use Rattle.grammar.specs.declared.Clause.TheVariants as Kind;
 ghost use Rattle.grammar.specs.Content.{rules_of, SmallClause, SmallRule, Formed};
 ghost use Rattle.grammar.specs.SpanSheet.{pair_at};

@@ -1,4 +1,4 @@
--- Which lengths a nonterminal can have when all marks are ignored: 02, ask 7.
+-- Which lengths a nonterminal can have when all marks are ignored: docs/FORMAT.md, "The sweep".
 use Rattle.std.specs.Prelude.{◌≡◌, [], ◌∷◌, ℕ, length}
 use Rattle.grammar.specs.declared.Rule.{Rule}
 use Rattle.grammar.specs.declared.Clause.{Clause}

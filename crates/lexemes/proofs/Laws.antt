@@ -273,7 +273,8 @@ module _ (s : List ℕ) (i : ℕ) where
   pub digits_low : i < length s → get_or s i 0 < 48 → front_digits (drop i s) ≡ []
   digits_low h l = rw (drop-cons s i 0 h, lt-leb 48 (get_or s i 0) l) refl
 
-  pub digits_high : i < length s → 48 ≤ get_or s i 0 → 57 < get_or s i 0 → front_digits (drop i s) ≡ []
+  pub digits_high : i < length s → 48 ≤ get_or s i 0 → 57 < get_or s i 0
+      → front_digits (drop i s) ≡ []
   digits_high h l u =
       rw (drop-cons s i 0 h, le-leb 48 (get_or s i 0) l, lt-leb (get_or s i 0) 57 u) refl
 

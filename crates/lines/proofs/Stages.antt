@@ -40,7 +40,8 @@ module _ {R : Type 0} (bad : R) (k : Kind → List (List ℕ) → R) (s : List �
   pub kind_bad : KindField.Bad ≡ kind_field (read_field kind_of c (fields_left s c))
       → with_field bad kind_of (fields_left s c) k ≡ bad
   kind_bad e =
-      with_bad bad kind_of k c (fields_left s c) (kind_not (read_field kind_of c (fields_left s c)) e)
+      with_bad bad kind_of k c (fields_left s c)
+      (kind_not (read_field kind_of c (fields_left s c)) e)
 
 lay_is : (o : Option (Lay × Cursor)) (v : Lay) (d : Cursor) → LayField.Is v d ≡ lay_field o
     → some (v, d) ≡ o
@@ -58,7 +59,8 @@ module _ {R : Type 0} (bad : R) (k : Lay → List (List ℕ) → R) (s : List �
   pub lay_good : (v : Lay) (d : Cursor)
       → LayField.Is v d ≡ lay_field (read_field lay_of c (fields_left s c))
       → (with_field bad lay_of (fields_left s c) k ≡ k v (fields_left s d)) × (d.end ≡ c.end)
-  lay_good v d e = with_good bad lay_of k s c d v (lay_is (read_field lay_of c (fields_left s c)) v d e)
+  lay_good v d e =
+      with_good bad lay_of k s c d v (lay_is (read_field lay_of c (fields_left s c)) v d e)
 
   pub lay_bad : LayField.Bad ≡ lay_field (read_field lay_of c (fields_left s c))
       → with_field bad lay_of (fields_left s c) k ≡ bad
@@ -82,7 +84,8 @@ module _ {R : Type 0} (bad : R) (k : Operand → List (List ℕ) → R) (s : Lis
       → OperandField.Is v d ≡ operand_field (read_field operand_of c (fields_left s c))
       → (with_field bad operand_of (fields_left s c) k ≡ k v (fields_left s d)) × (d.end ≡ c.end)
   operand_good v d e =
-      with_good bad operand_of k s c d v (operand_is (read_field operand_of c (fields_left s c)) v d e)
+      with_good bad operand_of k s c d v
+      (operand_is (read_field operand_of c (fields_left s c)) v d e)
 
   pub operand_bad : OperandField.Bad ≡ operand_field (read_field operand_of c (fields_left s c))
       → with_field bad operand_of (fields_left s c) k ≡ bad

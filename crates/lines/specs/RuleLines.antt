@@ -1,4 +1,4 @@
--- What a rule line says: 01, "The two sheets" and the conditions 2, 3, 4 and 44.
+-- What a rule line says: docs/FORMAT.md, "The rule sheet", and refusals 2, 3, 4 and 44.
 use Rattle.std.specs.Prelude.{ℕ, List, Bool, not, cond, ◌&&◌, leb}
 use Rattle.grammar.specs.declared.Clause.{Clause}
 use Rattle.grammar.specs.declared.UnaryMark.TheVariants as UnaryMark
@@ -53,7 +53,8 @@ binary_rule l a b Lay.None = Good (record { left = l; clause = Clause.Binary a b
 binary_rule l a b Lay.Offside = Unfit
 binary_rule l a b Lay.Offalign = Unfit
 binary_rule l a b Lay.Single = Unfit
-binary_rule l a b Lay.Align = Good (record { left = l; clause = Clause.Binary a b BinaryMark.Align })
+binary_rule l a b Lay.Align =
+    Good (record { left = l; clause = Clause.Binary a b BinaryMark.Align })
 binary_rule l a b Lay.Indent =
     Good (record { left = l; clause = Clause.Binary a b BinaryMark.Indent })
 

@@ -1,4 +1,4 @@
--- What a token line says: 01, "The two sheets" and the conditions 12 and 13; request 9, widths and
+-- What a token line says: docs/FORMAT.md, "The token sheet", and refusals 12 and 13; widths and
 -- condition 47.
 use Rattle.std.specs.Prelude.{ℕ, ◌+◌, List, Bool, true, false, cond, ◌&&◌, leb}
 use Rattle.fields.specs.Pieces.{pieces}

@@ -14,4 +14,5 @@ pub record ListOn (a : Answer) (bytes : List ℕ) (n : ℕ) (lent lent' : List �
     0 where
   pub fault : Fault
   pub number : number_of fault ≡ 22
-  pub gives : GivesList (list_reply a 0) (list_reply (Answer.Refused fault) 0 0) bytes n lent lent' r
+  pub gives : GivesList (list_reply a 0) (list_reply (Answer.Refused fault) 0 0) bytes n lent lent'
+      r

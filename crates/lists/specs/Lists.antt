@@ -1,4 +1,4 @@
--- A list that a call gives in lent bytes: 01, "Where each refusal is checked", behind the table.
+-- A list that a call gives in lent bytes: docs/FORMAT.md, "Calls and lent memory".
 use Rattle.std.specs.Prelude.{◌≡◌, List, [], ◌∷◌, ◌++◌, ℕ, ◌-◌, ◌≤◌, ◌<◌, length, replicate}
 
 -- the bytes of a list's entries, one entry after the other, where `entry` has the bytes of one

@@ -18,8 +18,10 @@ use Rattle.fields.specs.Words.{numeral_of, kind_of, operand_of, lay_of}
 use Rattle.fields.specs.Fields.{on_value, with_field, at_end_of}
 use Rattle.lines.specs.declared.RuleLine.{RuleLine}
 use Rattle.lines.specs.declared.RuleLine.TheVariants.{Good, Form, Range, Unfit, Reversed}
-use Rattle.lines.specs.RuleLines.{shape, plain_rule, atom_rule, unary_rule, binary_rule, lay_rule, up_to}
-use Rattle.lines.specs.RuleLines.{rule_of_of, after_lay, after_second, after_first, after_kind, after_left}
+use Rattle.lines.specs.RuleLines.{shape, plain_rule, atom_rule, unary_rule, binary_rule, lay_rule}
+use Rattle.lines.specs.RuleLines.{up_to}
+use Rattle.lines.specs.RuleLines.{rule_of_of, after_lay, after_second, after_first, after_kind}
+use Rattle.lines.specs.RuleLines.{after_left}
 use Rattle.lines.specs.RuleLines.{rule_fields, rule_line_of}
 use Rattle.sheets.specs.RefusedLines.{piece_start}
 use Rattle.fields.proofs.Cuts.{FreeOf, pieces_free, same_path}
@@ -251,7 +253,8 @@ module _ (l : ℕ) (z : Lay) (r : Rule) where
       (lay_other k a.value (up_to a b) y))))
 
 -- what the kind and the lay say of a good line
-pub laid_of : (l : ℕ) (k : Kind) (a b : Operand) (y : Lay) (r : Rule) → rule_of_of l k a b y ≡ Good r
+pub laid_of : (l : ℕ) (k : Kind) (a b : Operand) (y : Lay) (r : Rule)
+    → rule_of_of l k a b y ≡ Good r
     → lay_rule l k a.value (up_to a b) y ≡ Good r
 laid_of l k a b y r e =
     go (shape k a.dash b.dash) (leb l 63) (leb a.value 63) (leb (up_to a b) 63) e

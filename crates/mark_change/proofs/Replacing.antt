@@ -63,7 +63,8 @@ module _ (b : ℕ) where
   pieces_behind (suc n) s x f h = go (λ v. pieces_behind n v x f) (cut_of b s) h
     where
       go : ((v : List ℕ) → n < length (pieces b v)
-          → pieces b (x ++ drop (piece_start (pieces b v) n + length (get_or (pieces b v) n [])) v) ≡ x
+          → pieces b (x ++ drop (piece_start (pieces b v) n + length (get_or (pieces b v) n [])) v)
+          ≡ x
           ∷ drop (suc n) (pieces b v)) → {r : List ℕ} → Cut b r → suc n < length (pieces b r)
           → pieces b (x ++ drop (piece_start (pieces b r) (suc n)
           + length (get_or (pieces b r) (suc n) [])) r) ≡ x
@@ -82,7 +83,8 @@ module _ (b : ℕ) where
       ++ (x ++ drop (piece_start (pieces b s) n + length (get_or (pieces b s) n [])) s))
       ≡ set (pieces b s) n x
   pieces_replaced n s x f h =
-      pieces_upto n s (x ++ drop (piece_start (pieces b s) n + length (get_or (pieces b s) n [])) s) h
+      pieces_upto n s (x ++ drop (piece_start (pieces b s) n + length (get_or (pieces b s) n [])) s)
+      h
       ∙ rw (pieces_behind n s x f h) (sym (set_split (pieces b s) n x h))
 
   -- piece n stands where it begins, and has no b
@@ -155,7 +157,8 @@ module _ (b : ℕ) where
   piece_before (suc n) s h = go (λ v. piece_before n v) (cut_of b s) h
     where
       go : ((v : List ℕ) → n < length (pieces b v)
-          → before b (drop (piece_start (pieces b v) n) v) ≡ get_or (pieces b v) n []) → {r : List ℕ}
+          → before b (drop (piece_start (pieces b v) n) v) ≡ get_or (pieces b v) n [])
+          → {r : List ℕ}
           → Cut b r → suc n < length (pieces b r)
           → before b (drop (piece_start (pieces b r) (suc n)) r)
           ≡ get_or (pieces b r) (suc n) []

@@ -17,7 +17,8 @@ use Rattle.lines.specs.Turns.{turn_of}
 use Rattle.lines.specs.RuleLines.{rule_line_of}
 use Rattle.lines.specs.declared.Key.{Key}
 use Rattle.lines.specs.Keys.{key_of}
-use Rattle.sheets.specs.Items.{Step, next, stop, end, Reading, accepted, refused, step_at_of, on_step}
+use Rattle.sheets.specs.Items.{Step, next, stop, end, Reading, accepted, refused, step_at_of}
+use Rattle.sheets.specs.Items.{on_step}
 use Rattle.sheets.specs.Items.{items_from}
 use Rattle.sheets.specs.RuleSheets.{has_key, any_of, rule_said_of, rule_says, rule_step}
 use Rattle.sheets.proofs.Loop.{next_only}
@@ -59,7 +60,8 @@ said_same u v k RuleLine.Unfit = refl
 said_same u v k RuleLine.Reversed = refl
 said_same u v k (RuleLine.Good r) = rw (k.keys (key_of r))
 
-step_same : (u v : Rules) → SameKeys u v → (p : List ℕ) (b : Bool) → rule_step u p b ≡ rule_step v p b
+step_same : (u v : Rules) → SameKeys u v → (p : List ℕ) (b : Bool)
+    → rule_step u p b ≡ rule_step v p b
 step_same u v k p b = rw (said_same u v k (rule_line_of p), k.count)
 
 -- the lines behind give the same rules after either
@@ -76,8 +78,7 @@ pub rest_same : (u v : Rules) (ps : List (List ℕ)) (w : Rules) → SameKeys u 
 rest_same u v [] w k e = record {
   tail = [];
   whole = sym (accepted_inj u w e) ∙ sym (append-nil u);
-  reads =
-      ap accepted (sym (append-nil v));
+  reads = ap accepted (sym (append-nil v));
 }
 rest_same u v (p ∷ ps) w k e =
     go (λ t. rest_same (u ++ t ∷ []) (v ++ t ∷ []) ps w (keys_snoc u v t t k refl))
@@ -106,7 +107,8 @@ rest_same u v (p ∷ ps) w k e =
 -- 2. a line that gives a rule
 
 -- what a whole line says that gives an item
-step_said : (said : Step Rule) (u : Turn) (t : Rule) → step_at_of 6 2 said u ≡ next t → said ≡ next t
+step_said : (said : Step Rule) (u : Turn) (t : Rule) → step_at_of 6 2 said u ≡ next t
+    → said ≡ next t
 step_said said Turn.End t e = absurd (clash cc)
 step_said said Turn.Many t e = absurd (clash cc)
 step_said said Turn.Open t e = absurd (clash cc)
@@ -129,20 +131,23 @@ gives seen p b t e =
     go n.1 n.0 (rule_line_of p) refl
     (step_said (rule_says seen p) (turn_of 128 (length seen) p b) t e)
   where
-    fresh_of : b ≡ true → length seen < 128 → (r : Rule) → rule_line_of p ≡ RuleLine.Good r → (f : Bool)
+    fresh_of : b ≡ true → length seen < 128 → (r : Rule) → rule_line_of p ≡ RuleLine.Good r
+        → (f : Bool)
         → any_of (has_key (key_of r)) seen ≡ f
         → cond f (stop 5) (next r) ≡ next t → GivesRule seen p b t
     fresh_of ends few r h true k e = absurd (clash cc)
     fresh_of ends few r h false k e = let j = next_inj r t e in
         record { ends = ends; few = few; says = h ∙ ap RuleLine.Good j; fresh = rw j at k }
 
-    go : b ≡ true → length seen < 128 → (x : RuleLine) → rule_line_of p ≡ x → rule_said_of seen x ≡ next t
+    go : b ≡ true → length seen < 128 → (x : RuleLine) → rule_line_of p ≡ x
+        → rule_said_of seen x ≡ next t
         → GivesRule seen p b t
     go ends few RuleLine.Form h e = absurd (clash cc)
     go ends few RuleLine.Range h e = absurd (clash cc)
     go ends few RuleLine.Unfit h e = absurd (clash cc)
     go ends few RuleLine.Reversed h e = absurd (clash cc)
-    go ends few (RuleLine.Good r) h e = fresh_of ends few r h (any_of (has_key (key_of r)) seen) refl e
+    go ends few (RuleLine.Good r) h e =
+        fresh_of ends few r h (any_of (has_key (key_of r)) seen) refl e
 
 -- 3. one line changed
 
@@ -205,7 +210,8 @@ module _ (seen : Rules) (ps : List (List ℕ)) (t : Rule) (few : length seen < 1
   here line x e k ended z = rw (z, step_new line, e) (said_new x k)
 
 -- another line in the place of one leaves as many
-pub empty_set : (ps : List (List ℕ)) (n : ℕ) (line : List ℕ) → is_empty (set ps n line) ≡ is_empty ps
+pub empty_set : (ps : List (List ℕ)) (n : ℕ) (line : List ℕ)
+    → is_empty (set ps n line) ≡ is_empty ps
 empty_set [] n line = refl
 empty_set (p ∷ ps) zero line = refl
 empty_set (p ∷ ps) (suc n) line = refl

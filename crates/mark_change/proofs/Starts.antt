@@ -72,7 +72,8 @@ module _ {s : List ℕ} {b n at left : ℕ} (w : Walking s b n at left) (more : 
   pub walking_miss : (get_or s at 0 ≡ b → ⊥) → Walking s b n (at + 1) left
   walking_miss e =
       let ps = pieces b (drop (at + 1) s) in
-      let j : pieces b (drop at s) ≡ onto (get_or s at 0) ps = rw (cut, ne_eqb (get_or s at 0) b e) in
+      let j : pieces b (drop at s) ≡ onto (get_or s at 0) ps =
+      rw (cut, ne_eqb (get_or s at 0) b e) in
       let t = w.there in
       let k = some_suc left more in
       let l = pieces_long b (drop (at + 1) s) in

@@ -7,7 +7,8 @@ use Prim.Native.Nat.{ℕ, zero, suc, ◌+◌, ◌-◌, ◌≤◌, ◌<◌, zero-
 use native.Mathlib.Nat.{le_of_suc-le-suc, not-suc-le-zero, lt_irrefl, le_refl, add-zero}
 use native.Mathlib.Omega.{arith}
 use lib.ListN.{length, take, drop, length-append, length-drop}
-use lib.Seq.{take-add, drop-drop, take_at, drop_at, length-take-le, get_or-take, get_or-drop, ext_get_or}
+use lib.Seq.{take-add, drop-drop, take_at, drop_at, length-take-le, get_or-take, get_or-drop}
+use lib.Seq.{ext_get_or}
 use Rattle.grammar.specs.declared.Token.{Token}
 use Rattle.grammar.specs.declared.UnaryMark.{UnaryMark}
 use Rattle.grammar.specs.declared.BinaryMark.{BinaryMark}

@@ -1,5 +1,5 @@
 -- The least column on lines later than the first token's, carried along while a span grows by a
--- token (02, request 3).
+-- token (docs/FORMAT.md, "Layout marks").
 use Rattle.std.specs.Prelude.{◌≡◌, ℕ, ◌+◌, ◌≤◌, ◌<◌, min}
 use Rattle.grammar.specs.declared.Token.{Token}
 use Rattle.grammar.specs.declared.Column.{Column}

@@ -50,7 +50,8 @@ at_from : (a : Token) (x : Word)
 at_from a [] f = tt
 at_from a (b ∷ x) f = (f 0 (omega arith), at_from b x (λ i h. f (suc i) (omega arith)))
 
-pub at_rising : (x : Word) → ((i : ℕ) → i + 1 < length x → After (token_at x i) (token_at x (i + 1)))
+pub at_rising : (x : Word) → ((i : ℕ) → i + 1 < length x
+    → After (token_at x i) (token_at x (i + 1)))
     → Rising x
 at_rising [] f = tt
 at_rising (a ∷ x) f = at_from a x (λ i h. rw (add-one i) at (f i (omega arith)))
@@ -61,8 +62,7 @@ pub within_standing : (r : RangeToken) (t : Token) (x : ℕ) → WithinEnds r t 
 within_standing r t x w e = λ i. record {
   terminal = w.terminal i;
   line = record { 0 = w.line i };
-  column =
-      record { 0 = e i };
+  column = record { 0 = e i };
   width = record { 0 = w.width i };
 }
 
@@ -156,8 +156,7 @@ fixed_within r x l h a w = record {
   terminal = w.terminal;
   line = w.line;
   low = omega (arith, w.low);
-  high =
-      omega (arith, w.high);
+  high = omega (arith, w.high);
   width = w.width;
 }
 
@@ -168,8 +167,7 @@ within_fixed r a x e w = record {
   line = w.line;
   low = omega arith;
   high = omega arith;
-  width =
-      w.width;
+  width = w.width;
 }
 
 -- a choice of the narrowed ranges is one of the ranges; one of the ranges with that column is one

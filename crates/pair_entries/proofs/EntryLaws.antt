@@ -48,8 +48,7 @@ pub kinds_more : {f : Frame} {k s r : ℕ} → KindsTo f k s → KindAdded f k s
 kinds_more {f} {k} {s} {r} t a =
     record {
       has = λ n h q. by n q (dec_lt n k) h;
-      only =
-          λ n i. ⊎_elim (t.only n) (of n) (a.only n i);
+      only = λ n i. ⊎_elim (t.only n) (of n) (a.only n i);
     }
   where
     by : (n : ℕ) → Suits f (n / 4) (n % 4) → Dec (n < k) → n < k + 1 → In r n
@@ -133,7 +132,8 @@ module _ (t : List ℕ) (n c s from end : ℕ) (h : 73728 ≤ length t) (k : n <
   other i a b d e =
       get_or-set_other put₃ (65539 + 4 * n) i end 0 e
       ∙ (get_or-set_other put₂ (65538 + 4 * n) i from 0 d
-      ∙ (get_or-set_other put₁ (65537 + 4 * n) i s 0 b ∙ get_or-set_other t (65536 + 4 * n) i c 0 a))
+      ∙ (get_or-set_other put₁ (65537 + 4 * n) i s 0 b ∙ get_or-set_other t (65536 + 4 * n) i c 0
+      a))
 
   pub entry_put : EntryPut t put₄ n c s from end
   entry_put =
@@ -190,7 +190,8 @@ entry_same {t} {u} {top} {high} {k} e l m h =
 
 entries_same : {t u : List ℕ} {n top high a b : ℕ} → n ≤ 256
     → ((i : ℕ) → i < 65536 + 4 * n → 65536 ≤ i → get_or u i 0 ≡ get_or t i 0)
-    → ((i : ℕ) → 66560 ≤ i → i < top → get_or u i 0 ≡ get_or t i 0) → top ≤ high → EntriesOf t n top a b
+    → ((i : ℕ) → 66560 ≤ i → i < top → get_or u i 0 ≡ get_or t i 0) → top ≤ high
+    → EntriesOf t n top a b
     → EntriesOf u n high a b
 entries_same {t} {u} {n} m e l o h =
     record {
@@ -210,8 +211,7 @@ entered_zero t n a end =
       before = λ i h. refl;
       behind = λ i h. refl;
       high = omega arith;
-      entries =
-          λ c top h k e. record { each = e.each; all = λ d p q u. e.all d p (omega arith) u };
+      entries = λ c top h k e. record { each = e.each; all = λ d p q u. e.all d p (omega arith) u };
     }
 
 pub entered_none : (t : List ℕ) (n c end : ℕ) → (Useful c → ⊥) → Entered t t n n c (c + 1) end
@@ -221,8 +221,7 @@ entered_none t n c end h =
       before = λ i h. refl;
       behind = λ i h. refl;
       high = omega arith;
-      entries =
-          λ a top l k e. record { each = e.each; all = λ d p q u. e.all d p (less d q u) u };
+      entries = λ a top l k e. record { each = e.each; all = λ d p q u. e.all d p (less d q u) u };
     }
   where
     less : (d : ℕ) → d < c + 1 → Useful d → d < c
@@ -243,8 +242,7 @@ entered_one {t} {u} {n} {c} {s} {from} {end} h p k l m =
       high = omega arith;
       entries = λ a top q o e. record {
         each = λ j r. one top o a e j r (dec_lt j n);
-        all =
-            λ d r v w. has top a e d r v w (dec_lt d c);
+        all = λ d r v w. has top a e d r v w (dec_lt d c);
       };
     }
   where
@@ -259,8 +257,7 @@ entered_one {t} {u} {n} {c} {s} {from} {end} h p k l m =
           kinds = rw (e₁, e₂) k;
           lists = rw (e₁, e₃, e₄) ls;
           low = omega arith;
-          high =
-              omega arith;
+          high = omega arith;
         }
 
     one : (top : ℕ) → end ≤ top → (a : ℕ) → EntriesOf t n top a c → (j : ℕ) → j < n + 1

@@ -1,5 +1,6 @@
 -- How entries are made. For the contracts of inner functions only.
-use Rattle.std.specs.Prelude.{◌≡◌, Bool, false, List, ◌⊎◌, ℕ, ◌+◌, ◌*◌, ◌/◌, ◌%◌, ◌≤◌, ◌<◌, length, get_or}
+use Rattle.std.specs.Prelude.{◌≡◌, Bool, false, List, ◌⊎◌, ℕ, ◌+◌, ◌*◌, ◌/◌, ◌%◌, ◌≤◌, ◌<◌, length}
+use Rattle.std.specs.Prelude.{get_or}
 use Rattle.sets.specs.Sets.{In}
 use Rattle.pair_offsets.specs.declared.Frame.{Frame}
 use Rattle.pair_steps.specs.Suiting.{Suits}

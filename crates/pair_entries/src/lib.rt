@@ -104,7 +104,8 @@ fn enter(words: &mut [u64], n: usize, c: usize, from: usize, end: usize) -> usiz
 
 // Enters the frames with these four starts, whose list of sixes stands from a place on.
 fn enter_all(words: &mut [u64], n: usize, p: usize, from: usize, end: usize) -> usize
-    requires search_words_in_bounds { (search_words ≤ length words.old) × (n + 36 ≤ 256) × (p < 1296) }
+    requires search_words_in_bounds { (search_words ≤ length words.old) × (n + 36 ≤ 256)
+        × (p < 1296) }
     requires lists_evens { ListsEvens (frame_at (36 * p)) words.old from end × (66560 ≤ from) }
     ensures { Entered words.old words.new n result (36 * p) (36 * p + 36)
         end }
@@ -120,7 +121,8 @@ fn enter_all(words: &mut [u64], n: usize, p: usize, from: usize, end: usize) -> 
 
 // Lists the sixes of the next four starts and enters their frames, if there are any of use.
 fn add_starts(words: &mut [u64], s: Stage) -> Stage
-    requires search_words_in_bounds { (search_words ≤ length words.old) × (s.starts < 1296) × (s.entries ≤ 220) }
+    requires search_words_in_bounds { (search_words ≤ length words.old) × (s.starts < 1296)
+        × (s.entries ≤ 220) }
     requires le_free { (66560 ≤ s.free) × (s.free ≤ 69632) }
     ensures { StartsAdded words.old words.new s result }
 {

@@ -19,7 +19,8 @@ use Rattle.grammar.proofs.ByKind.{get_elem?_lt}
 use Rattle.acyclic.proofs.Growth.{small_at}
 use Rattle.pairs.specs.Survey.{Inherits}
 use Rattle.pairs.specs.Strength.{rank}
-use Rattle.pairs.specs.Shapes.{Form, tip, one, two, Shape, all, first, second, rule_of_shape, RuleAt}
+use Rattle.pairs.specs.Shapes.{Form, tip, one, two, Shape, all, first, second, rule_of_shape}
+use Rattle.pairs.specs.Shapes.{RuleAt}
 use Rattle.pairs.specs.Shapes.{HasForm, tips, units, twos, firsts, seconds, Head}
 use Rattle.survey.specs.declared.Levels.{Levels}
 use Rattle.survey.specs.Closing.{LevelsOf}
@@ -143,7 +144,8 @@ module _ {g : Grammar} (fo : Formed g) where
   rule_low : (p : ℕ) {A : ℕ} {c : Clause} → RuleAt (rules_of g) p A c → p < g.count
   rule_low p r = omega (arith, get_elem?_lt (rules_of g) p r, fo.whole)
 
-  place_low : {A : ℕ} {s : Shape} {f : Form} → HasForm (rules_of g) A s f → rule_of_shape s < g.count
+  place_low : {A : ℕ} {s : Shape} {f : Form} → HasForm (rules_of g) A s f
+      → rule_of_shape s < g.count
   place_low (tips {p = n} i r) = rule_low n r
   place_low (units {p = n} i r p) = rule_low n r
   place_low (twos {p = n} i r p q) = rule_low n r
@@ -159,7 +161,8 @@ module _ {g : Grammar} (fo : Formed g) where
   small_tip : {A a b : ℕ} {s : Shape} → HasForm (rules_of g) A s (tip a b) → b < 64
   small_tip (tips {p = n} i r) = (small_clause n r).1
 
-  small_one : {A C : ℕ} {l k : UnaryMark} {s : Shape} → HasForm (rules_of g) A s (one C l k) → C < 64
+  small_one : {A C : ℕ} {l k : UnaryMark} {s : Shape} → HasForm (rules_of g) A s (one C l k)
+      → C < 64
   small_one (units {p = n} i r p) = small_clause n r
   small_one (firsts {p = n} i r p q) = (small_clause n r).0
   small_one (seconds {p = n} i r p q) = (small_clause n r).1
@@ -226,7 +229,8 @@ module _ {g : Grammar} (fo : Formed g) where
           all = λ B r f h e.
               absurd
               (none refl B f
-              (subst (λ (t : Shape). HasForm (rules_of g) B t f) (shape_one r s (place h) low e) h));
+              (subst (λ (t : Shape). HasForm (rules_of g) B t f) (shape_one r s (place h) low e)
+              h));
         }
     slot_by (Looks.Tip a b) x none w = shown (tip a b) x w
     slot_by (Looks.One C l k) x none w = shown (one C l k) x w
@@ -274,7 +278,8 @@ module _ {g : Grammar} (fo : Formed g) where
       }
 
   -- all slots
-  pub nodes_of : {ns : List ℕ} → 1536 ≤ length ns → SlotsTo (rules_of g) ns 384 → NodesOf (rules_of g) ns
+  pub nodes_of : {ns : List ℕ} → 1536 ≤ length ns → SlotsTo (rules_of g) ns 384
+      → NodesOf (rules_of g) ns
   nodes_of {ns} l x =
       record { long = l; only = λ i h. (x.each i h).only; all = each }
     where

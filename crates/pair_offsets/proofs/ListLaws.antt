@@ -45,8 +45,7 @@ pub left_none : (list : List ℕ) (from : ℕ) (m : Masks) → OffsetsLeft list 
 left_none list from m =
     record {
       all = λ k l. absurd (omega (arith, l.low, l.high));
-      only =
-          λ k i. absurd (in_zero k i);
+      only = λ k i. absurd (in_zero k i);
     }
 
 pub left_more : {list : List ℕ} {from i r s : ℕ} {m : Masks} → from ≤ i
@@ -77,8 +76,7 @@ left_more {list} {from} {i} {r} {s} {m} b so a =
           place = l.place;
           low = l.low;
           high = omega (arith, l.high);
-          held =
-              l.held;
+          held = l.held;
           starts = l.starts;
         }
     from_of k h (no q) =
@@ -171,7 +169,8 @@ listing_more {f} {old} {mid} {new} {from} {t} {n} {r} a b =
 
 -- 3. a list of all sixes, for each frame with the same starts
 
-even_same : {f g : Frame} {s : ℕ} → ((c : Corner) → rank_of f (at c) ≡ rank_of g (at c)) → EvenSix f s
+even_same : {f g : Frame} {s : ℕ} → ((c : Corner) → rank_of f (at c) ≡ rank_of g (at c))
+    → EvenSix f s
     → EvenSix g s
 even_same {f} {g} {s} e v =
     record {

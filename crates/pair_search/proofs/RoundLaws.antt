@@ -66,7 +66,8 @@ take_same n t u s e =
     let k : i < n = omega (arith, length-take n u) in
     get_or-take n u i 0 k ∙ (e i k ∙ sym (get_or-take n t i 0 k)))
 
-take_most : (n : ℕ) (t : List ℕ) → ((i : ℕ) → get_or t i 0 < 2 ^ 64) → word_sum (take n t) ≤ n * 2 ^ 64
+take_most : (n : ℕ) (t : List ℕ) → ((i : ℕ) → get_or t i 0 < 2 ^ 64)
+    → word_sum (take n t) ≤ n * 2 ^ 64
 take_most zero t h = omega arith
 take_most (suc n) [] h = omega arith
 take_most (suc n) (a ∷ t) h = omega (arith, h 0, take_most n t (λ i. h (suc i)))
@@ -199,8 +200,7 @@ ready h q =
             kinds = e.kinds;
             lists = e.lists;
             low = e.low;
-            high =
-                omega (arith, e.high, q.high);
+            high = omega (arith, e.high, q.high);
           };
     }
 
@@ -389,8 +389,7 @@ closed {ns} {t} {g} a o low = record { closed = by }
           node₁ = nx.1;
           node₂ = ny.1;
           number₁ = refl;
-          number₂ =
-              refl;
+          number₂ = refl;
         }) l n told
 
 -- rounds, one after the other
@@ -421,8 +420,7 @@ searched a r e low =
       table = λ g h so. record {
         sound = s.sound g h so;
         closed = closed (r.all e) h low;
-        low =
-            low;
+        low = low;
       };
     }
 

@@ -61,8 +61,7 @@ words-in t x y i j =
       cc = refl;
       cd = refl;
       dc = refl;
-      dd =
-          refl;
+      dd = refl;
     }
 
 abbrev nexts_by_of : List ℕ → Frame → Node → Node → ℕ → ℕ → ℕ → ℕ → Words
@@ -94,8 +93,7 @@ nexts_in m f x y =
       cc = refl;
       cd = refl;
       dc = refl;
-      dd =
-          refl;
+      dd = refl;
     }
 
 -- nodes that may stand by the table suit the frame
@@ -209,7 +207,8 @@ ran_then {Q = Q} {t = t} {u} {v} {r} {s} h a b =
           (b.then (and_true₂ r s e)));
     }
   where
-    grows : (r s : Bool) → (r ≡ false → word_sum t < word_sum u) → (s ≡ false → word_sum u < word_sum v)
+    grows : (r s : Bool) → (r ≡ false → word_sum t < word_sum u)
+        → (s ≡ false → word_sum u < word_sum v)
         → (r && s) ≡ false → word_sum t < word_sum v
     grows true s p q e = omega (arith, a.least, q e)
     grows false s p q e = omega (arith, b.least, p refl)
@@ -371,7 +370,8 @@ pair_there {ns} {i} {j} {x} {y} hi hj pi pj ex ey g o =
 
 pub cell_ran : {ns : List ℕ} {i j n : ℕ} {t u : List ℕ} {r : Bool} {x y : Node} → i < 384 → j < 384
     → Present ns i
-    → Present ns j → x ≡ node_at ns i → y ≡ node_at ns j → Ran (PairOf x y i j) (Met x y i j n) t u r
+    → Present ns j → x ≡ node_at ns i → y ≡ node_at ns j
+    → Ran (PairOf x y i j) (Met x y i j n) t u r
     → Ran (λ g. NodesOf g ns) (Cell ns i j n) t u r
 cell_ran {ns} {i} {j} {n} {t} {x = x} hi hj pi pj ex ey a =
     ran_of (pair_there hi hj pi pj ex ey)

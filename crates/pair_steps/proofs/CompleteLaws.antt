@@ -288,7 +288,8 @@ module _ (g : Rules) (m : List ℕ) (low : LowTable m) (f : Frame) (x y : Head) 
 
         by : Dec (f.stop < f.end) → Dec (f.end < f.stop)
             → clamp (val (min f.stop f.end))
-            ≡ next_in (setting (rank_of f) (six_of t) (λ p. val (rank_of f p))) (whole₁ x) (whole₂ y)
+            ≡ next_in (setting (rank_of f) (six_of t) (λ p. val (rank_of f p))) (whole₁ x)
+            (whole₂ y)
         by (yes h) z =
             let e : min f.stop f.end ≡ f.stop = omega arith in
             let q =

@@ -74,7 +74,10 @@ member f stop₂ = Memᴰ.tail
 -- points that have their ranks for numbers
 pub ranked_by : (f : Point → ℕ) → ((p : Point) → lower (numbers_of f) (f p) ≡ f p) → Ranked f
 ranked_by f e =
-    record { small = λ p. omega (arith, e p, lower_few (numbers_of f) (f p) (member f p)); rank = e }
+    record {
+      small = λ p. omega (arith, e p, lower_few (numbers_of f) (f p) (member f p));
+      rank = e;
+    }
 
 module _ (f : Point → ℕ) where
   pub ranks : Point → ℕ

@@ -185,10 +185,12 @@ module _ (g : Rules) (m : List ℕ) (f : Frame) (x y : Head) (vx vy : Node) (nx 
             nonempty₁ = is_order less f.start f.stop su.nonempty₁;
             nonempty₂ = is_order less f.begin f.end su.nonempty₂;
             sits₁ =
-                of_parts g (setting (rank_of f) (six_of t) (λ p. val (rank_of f p))) start₁ cut₁ stop₁
+                of_parts g (setting (rank_of f) (six_of t) (λ p. val (rank_of f p))) start₁ cut₁
+                stop₁
                 x.form parts₁;
             sits₂ =
-                of_parts g (setting (rank_of f) (six_of t) (λ p. val (rank_of f p))) start₂ cut₂ stop₂
+                of_parts g (setting (rank_of f) (six_of t) (λ p. val (rank_of f p))) start₂ cut₂
+                stop₂
                 y.form parts₂;
             meet =
                 record {

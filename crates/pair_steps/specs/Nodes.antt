@@ -6,7 +6,8 @@ use Rattle.grammar.specs.declared.BinaryMark.{BinaryMark}
 use Rattle.grammar.specs.Trees.{Rules, Covers}
 use Rattle.pairs.specs.Survey.{CanBegin, Inherits}
 use Rattle.pairs.specs.Strength.{rank}
-use Rattle.pairs.specs.Shapes.{Form, tip, one, two, Shape, all, first, second, rule_of_shape, HasForm}
+use Rattle.pairs.specs.Shapes.{Form, tip, one, two, Shape, all, first, second, rule_of_shape}
+use Rattle.pairs.specs.Shapes.{HasForm}
 use Rattle.pairs.specs.Shapes.{Head}
 use Rattle.pairs.specs.Relations.{Offset, beside, below, equal, more}
 use Rattle.pairs.specs.Settings.{AllowsOffset}

@@ -142,7 +142,8 @@ module _ (g : Rules) (t : List ℕ) (low : LowTable t) (f : Frame) (hx hy : Head
       → OffsetsFound f x y w list from end r → NextsOf t f x y n → TokensFound f x y n q
       → Put t u (64 * i + y.sort) (24576 + (64 * x.sort + y.sort))
       (next_place f x.sort y.sort)
-      (relation_bits f r) (relation_bits f r) q b → b ≡ true → Kept t (setting (rank_of f) l z) hx hy
+      (relation_bits f r) (relation_bits f r) q b → b ≡ true
+      → Kept t (setting (rank_of f) l z) hx hy
   put_kept {u} {w} {n} {r} {q} ws o ns v p e =
       let s = as_words ws in
       let d = p.still e in

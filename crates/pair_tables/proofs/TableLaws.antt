@@ -39,7 +39,8 @@ or_least : (a b : ℕ) → a ≤ bit_or a b
 or_least a b = omega (arith, or_add_and a b, and_le_r a b)
 
 pub joined : (t : List ℕ) (at s : ℕ) → at < length t
-    → Joined t (set t at (bit_or (get_or t at 0) s)) at s (eqb (bit_or (get_or t at 0) s) (get_or t at 0))
+    → Joined t (set t at (bit_or (get_or t at 0) s)) at s
+    (eqb (bit_or (get_or t at 0) s) (get_or t at 0))
 joined t at s h =
     record {
       size = length-set t at (bit_or (get_or t at 0) s);

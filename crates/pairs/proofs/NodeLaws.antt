@@ -243,7 +243,8 @@ module _ (g : Rules) (w : Word) where
                     rw e at z.keeps,
                     no_mark (slice a (a + length (word r ++ word t)) w),
                     refl,
-                    subst (λ (i : ℕ). CanBegin g (root t) (terminal_at_of w i)) o (begins_at v' high y),
+                    subst (λ (i : ℕ). CanBegin g (root t) (terminal_at_of w i)) o
+                        (begins_at v' high y),
                   );
                 };
             below = (grown₂ a (a + length (word r ++ word t)) o refl y, tt);

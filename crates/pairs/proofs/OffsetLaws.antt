@@ -108,7 +108,8 @@ module _ (w : Word) (rise : Rising w) (wide : Wide w) where
   unfolding offset_at
   lies_at i j h k =
       rw (is_order less i j h)
-      (offset_lies (token_at w i) (token_at w j) (every_at (λ t. 1 ≤ width t) w wide i (omega arith))
+      (offset_lies (token_at w i) (token_at w j)
+      (every_at (λ t. 1 ≤ width t) w wide i (omega arith))
       (later_after w rise i j h k))
 
   pub lines_rise : (i j : ℕ) → i ≤ j → j < length w → line (token_at w i) ≤ line (token_at w j)

@@ -125,9 +125,11 @@ module _ (g : Rules) (w : Word) (rise : Rising w) (wide : Wide w) where
     step m =
         two_nodes (point x y) (offsets w x y) (terminals w x y) (head_of x) (head_of y)
         (fit_in g w rise wide x y r.fits q.fits m)
-        (λ c h k. ((mem_every (Told (setting_of w x y)) (couples (head_of x) (head_of y)) every_told h
+        (λ c h k. ((mem_every (Told (setting_of w x y)) (couples (head_of x) (head_of y)) every_told
+        h
         ).told k).0)
-        (λ c h k d. ((mem_every (Told (setting_of w x y)) (couples (head_of x) (head_of y)) every_told h
+        (λ c h k d. ((mem_every (Told (setting_of w x y)) (couples (head_of x) (head_of y))
+        every_told h
         ).told k).1)
 
   smaller : (n : ℕ) → Smaller n

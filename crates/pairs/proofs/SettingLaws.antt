@@ -22,7 +22,8 @@ use Rattle.pairs.specs.Settings.{corners, points}
 use Rattle.pairs.specs.Settings.{Even, Side, sides_of, MeetIn, InsideIn, AllowsOffset, KeepsIn}
 use Rattle.pairs.specs.Settings.{JoinsIn, SitsIn, FitIn}
 use Rattle.pairs.proofs.Every.{every_all}
-use Rattle.pairs.proofs.Nodes.{offset_at, terminal_at_of, Piece, Meet, Spot, head_of, kids_of_of, Sits}
+use Rattle.pairs.proofs.Nodes.{offset_at, terminal_at_of, Piece, Meet, Spot, head_of, kids_of_of}
+use Rattle.pairs.proofs.Nodes.{Sits}
 use Rattle.pairs.proofs.Nodes.{Fits}
 use Rattle.pairs.proofs.Nodes.{corner, point, setting_of, piece_of}
 use Rattle.pairs.proofs.NodeLaws.{slice_part}
@@ -120,7 +121,8 @@ module _ (g : Rules) (w : Word) (rise : Rising w) (wide : Wide w) (x y : Spot) (
           (keeps_at w rise wide m (corner x y i) (point x y j) (corner x y c) f u a b)
 
   joins_in : (k : BinaryMark) (i m : Corner) → corner x y i < corner x y m
-      → Pairs k (token_at w (corner x y i)) (token_at w (corner x y m - 1)) (token_at w (corner x y m))
+      → Pairs k (token_at w (corner x y i)) (token_at w (corner x y m - 1))
+      (token_at w (corner x y m))
       → JoinsIn k (setting_of w x y) i m
   joins_in BinaryMark.None i m h p = tt
   joins_in BinaryMark.Align i m h p =

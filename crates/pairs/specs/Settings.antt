@@ -99,7 +99,7 @@ pub record InsideIn (σ : Setting) (i j p : Point) : Type 0 where
   pub low : σ.order i p ≡ less
   pub high : σ.order p j ≡ less
 
--- what a unary mark asks of a word's first token and one behind it: 01, "Layout marks"
+-- what a unary mark asks of a word's first token and one behind it: docs/FORMAT.md, "Layout marks"
 abbrev pub AllowsOffset : UnaryMark → Offset → Type 0
 AllowsOffset m beside = Unit {0}
 AllowsOffset UnaryMark.None (below o) = Unit {0}

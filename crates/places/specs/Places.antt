@@ -1,4 +1,5 @@
--- The places at which the readings of a sentence part, and their list: 02, request 11.
+-- The places at which the readings of a sentence part, and their list: docs/FORMAT.md, "Calls and
+-- lent memory".
 use Rattle.std.specs.Prelude.{◌≡◌, ◌⊎◌, ℕ, ◌+◌, ◌<◌, length}
 use mathlib.Core.List.{List, [], ◌∷◌, Memᴰ}
 use Rattle.grammar.specs.Layout.{Word, Every}

@@ -37,12 +37,14 @@ pub rows_more : (t i : ℕ) (l : List ℕ) → 4 * i + 4 ≤ length l
 rows_more t i l h =
     let e : 4 * (i + 1) ≡ 4 * i + 4 = omega arith in
     let d : 4 ≤ length (drop (4 * i) l) = omega (arith, lib.ListN.length-drop (4 * i) l) in
-    let f : take 4 (drop (4 * i) l) ≡ get_or l (4 * i) 0 ∷ get_or l (4 * i + 1) 0 ∷ get_or l (4 * i + 2) 0
+    let f : take 4 (drop (4 * i) l) ≡ get_or l (4 * i) 0 ∷ get_or l (4 * i + 1) 0
+    ∷ get_or l (4 * i + 2) 0
     ∷ get_or l (4 * i + 3) 0 ∷ [] =
     four (drop (4 * i) l) d ∙ simp (get_or-drop, add-zero) in
     rw (e, take-add (4 * i) 4 l, f)
     (rows_append t i (take (4 * i) l)
-    (get_or l (4 * i) 0 ∷ get_or l (4 * i + 1) 0 ∷ get_or l (4 * i + 2) 0 ∷ get_or l (4 * i + 3) 0 ∷ [])
+    (get_or l (4 * i) 0 ∷ get_or l (4 * i + 1) 0 ∷ get_or l (4 * i + 2) 0 ∷ get_or l (4 * i + 3) 0
+    ∷ [])
     (length-take-le (4 * i) l (omega arith)) ∙ ap
     (λ (x : List ℕ). row_lines t (take (4 * i) l) ++ x)
     (append-nil (row_text_of t (get_or l (4 * i) 0) (get_or l (4 * i + 1) 0)

@@ -1,5 +1,6 @@
--- What the programs write: numbers, tree lines, token lines (01, "The programs").
-use Rattle.std.specs.Prelude.{◌≡◌, cond, List, [], ◌∷◌, ◌++◌, ℕ, zero, suc, ◌+◌, ◌/◌, ◌%◌, length, take, drop, ltb}
+-- What the programs write: numbers, tree lines, token lines (docs/FORMAT.md, "The programs").
+use Rattle.std.specs.Prelude.{◌≡◌, cond, List, [], ◌∷◌, ◌++◌, ℕ, zero, suc, ◌+◌, ◌/◌, ◌%◌, length}
+use Rattle.std.specs.Prelude.{take, drop, ltb}
 use Rattle.grammar.specs.declared.Token.{Token}
 use Rattle.grammar.specs.Layout.{Word, line, col}
 
@@ -38,7 +39,8 @@ letter_of (suc (suc (suc (suc k)))) = 67
 
 -- a tree line: tree, nonterminal, kind letter, start, length
 unfoldable pub row_text_of : ℕ → ℕ → ℕ → ℕ → ℕ → List ℕ
-row_text_of t A k s n = field t ++ (field A ++ ((letter_of k ∷ 32 ∷ []) ++ (field s ++ last_field n)))
+row_text_of t A k s n =
+    field t ++ (field A ++ ((letter_of k ∷ 32 ∷ []) ++ (field s ++ last_field n)))
 
 -- the tree lines of rows, four bytes each
 abbrev pub row_lines : ℕ → List ℕ → List ℕ

@@ -17,7 +17,8 @@ use Rattle.candidates.proofs.Windows.{cells_size, take_cells}
 use Rattle.pruning.specs.Refuting.{no_cell, terminal_at_of, TerminalChanged, Moved, prior, most}
 
 -- the cell at i of the list
-cells_from : (c : Candidate) (a n i : ℕ) → i < n → get_or (cells c a n) i no_cell ≡ cell_at c (a + i)
+cells_from : (c : Candidate) (a n i : ℕ) → i < n
+    → get_or (cells c a n) i no_cell ≡ cell_at c (a + i)
 cells_from c a zero i h = absurd (not-suc-le-zero h)
 cells_from c a (suc n) zero h = ap (cell_at c) (let z : a ≡ a + 0 = omega arith in z)
 cells_from c a (suc n) (suc i) h = cells_from c (suc a) n i (omega arith)
@@ -66,7 +67,8 @@ module _ (c r : Candidate) (n i : ℕ) (d : Cell) (h : i < n) (ch : Changed c i 
   pub changed_here : get_or (cells r 0 n) i no_cell ≡ d
   changed_here = cells_get r n i h ∙ ch.here
 
-  pub changed_rest : (q : ℕ) → q ≢ i → get_or (cells r 0 n) q no_cell ≡ get_or (cells c 0 n) q no_cell
+  pub changed_rest : (q : ℕ) → q ≢ i
+      → get_or (cells r 0 n) q no_cell ≡ get_or (cells c 0 n) q no_cell
   changed_rest q e = go (dec_lt q n)
     where
       go : Dec (q < n) → get_or (cells r 0 n) q no_cell ≡ get_or (cells c 0 n) q no_cell
@@ -96,8 +98,7 @@ module _ (c r : Candidate) (n i : ℕ) (d : Cell) (h : i < n) (ch : Changed c i 
     kept = changed_kept;
     terminal = ap
         (λ (x : Cell). x.terminal) changed_here;
-    rest =
-        λ q l. ap (λ (x : Cell). x.terminal) (changed_rest q (λ e. omega arith));
+    rest = λ q l. ap (λ (x : Cell). x.terminal) (changed_rest q (λ e. omega arith));
   }
 
 -- the column before, in the arrays and in the list
@@ -109,7 +110,8 @@ prior_from c p a (suc n) zero h =
 prior_from c p a (suc n) (suc i) h = prior_from c (get_or c.columns a 0) (suc a) n i (omega arith)
     ∙ ap (λ (x : ℕ). get_or c.columns x 0) (let z : suc a + i ≡ a + suc i = omega arith in z)
 
-pub prior_before : (c : Candidate) (n i : ℕ) → i < n → prior 0 (cells c 0 n) i ≡ column_before_of c i
+pub prior_before : (c : Candidate) (n i : ℕ) → i < n
+    → prior 0 (cells c 0 n) i ≡ column_before_of c i
 prior_before c n zero h = refl
 prior_before c n (suc i) h = prior_from c 0 0 n i (omega arith)
     ∙ ap (λ (x : ℕ). get_or c.columns x 0) (let z : 0 + i ≡ i = omega arith in z)

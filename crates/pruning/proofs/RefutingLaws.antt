@@ -76,7 +76,8 @@ module _ {g : Rules} {s n b j : ℕ} {cs : List Cell} {ws : List ℕ} {w : Word}
         subst (May g n ws i) (sym (placed_terminal 1 ds i u)) (go i h v u (dec_lt i j));
   }
     where
-      go : (i : ℕ) → b ≤ i → i < n → i < length ds → Dec (i < j) → May g n ws i (terminal_at_of ds i)
+      go : (i : ℕ) → b ≤ i → i < n → i < length ds → Dec (i < j)
+          → May g n ws i (terminal_at_of ds i)
       go i h v u (yes q) =
           free i h q (terminal_at_of ds i) (cells_terminal (Among s) n 0 ds c.arranged.cells i u)
       go i h v u (no q) = subst (May g n ws i) (sym (sp.same i (omega arith) v))
@@ -100,7 +101,8 @@ last_or m x h = go (dec_lt x m)
     go (no l) = inr (omega arith)
 
 -- the cell at j has the terminal
-terminal_at : (ds : List Cell) (j m : ℕ) → j < length ds → terminal_at_of ds j ≡ m → TerminalAt m j ds
+terminal_at : (ds : List Cell) (j m : ℕ) → j < length ds → terminal_at_of ds j ≡ m
+    → TerminalAt m j ds
 terminal_at [] j m l e = absurd (not-suc-le-zero l)
 terminal_at (d ∷ ds) zero m l e = e
 terminal_at (d ∷ ds) (suc j) m l e = terminal_at ds j m (omega arith) e
@@ -230,7 +232,8 @@ module _ {g : Rules} {s n h i : ℕ} {cs : List Cell} (size : length cs ≡ n) (
       go : (ds : List Cell) → Candidate (Among s) n ds → Shares i ds cs → Spelt n i ds cs
           → TwoTrees g 0 (sentence ds)
           → ((get_or ds i no_cell).step * n + (get_or ds i no_cell).column - 1 < m)
-          ⊎ ((get_or ds i no_cell).step * n + (get_or ds i no_cell).column - 1 ≡ m) → Twin g s n h ds
+          ⊎ ((get_or ds i no_cell).step * n + (get_or ds i no_cell).column - 1 ≡ m)
+          → Twin g s n h ds
       go ds c sh sp t (inl l) = q.twin ds c sh sp (omega arith) t
       go ds c sh sp t (inr e) =
           let f = low ds c in
@@ -243,7 +246,8 @@ module _ {g : Rules} {s n h i : ℕ} {cs : List Cell} (size : length cs ≡ n) (
           ap (λ (x : ℕ). x % n) (sym z) ∙ digits_mod (get_or ds i no_cell).step u in
           let ct : (get_or ds i no_cell).terminal ≡ (get_or cs' i no_cell).terminal =
           sp.same i (omega arith) lt ∙ sym (mv.terminals i) in
-          let cst : (get_or ds i no_cell).step ≡ (get_or cs' i no_cell).step = sym sd ∙ sym mv.step in
+          let cst : (get_or ds i no_cell).step ≡ (get_or cs' i no_cell).step =
+          sym sd ∙ sym mv.step in
           let cco : (get_or ds i no_cell).column ≡ (get_or cs' i no_cell).column =
           omega (arith, f.ranged.low, sm, mv.column) in
           r.twin ds c
@@ -251,8 +255,7 @@ module _ {g : Rules} {s n h i : ℕ} {cs : List Cell} (size : length cs ≡ n) (
           (sh ∙ sym (mv.kept i (omega arith)))
           (λ j. record { terminal = ct j; step = cst j; column = cco j }))
           (record {
-            same =
-                λ a x y. sp.same a (omega arith) y ∙ sym (mv.terminals a);
+            same = λ a x y. sp.same a (omega arith) y ∙ sym (mv.terminals a);
           }) t
 
   -- all positions

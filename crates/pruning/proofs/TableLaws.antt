@@ -51,8 +51,7 @@ pub gathered_none : (g : Rules) (s : ℕ) (table : List ℕ) → Gathered g s 0 
 gathered_none g s table = record {
   leaf = λ x h. absurd (not-suc-le-zero h);
   any = λ x h. absurd (not-suc-le-zero h);
-  past =
-      past_same 128 table;
+  past = past_same 128 table;
 }
 
 module _ {g : Rules} {s x : ℕ} {table table₁ : List ℕ} {p q : ℕ}
@@ -79,8 +78,7 @@ module _ {g : Rules} {s x : ℕ} {table table₁ : List ℕ} {p q : ℕ}
         (λ k. subst (λ (z : ℕ). Allows g z p' q') (sym k) new) (upto x y h);
     past = past_then f.past (record {
       long = w.kept.long;
-      rest =
-          λ i h. w.kept.rest i (λ e. omega arith) (λ e. omega arith);
+      rest = λ i h. w.kept.rest i (λ e. omega arith) (λ e. omega arith);
     });
   }
     where
@@ -155,12 +153,12 @@ module _ {table : List ℕ} {cs : List Cell} {n b : ℕ} where
       record { takes = λ k h. absurd (not-suc-le-zero h); past = past_same (2 * pairs n) ws }
 
   pub laid_more : {i r : ℕ} {ws ws₁ ws₂ : List ℕ} → i < n → Slot cs b i r
-      → LeavesPutTo table cs n b i ws ws₁ → WrotePair ws₁ ws₂ (pair_at n i 1) (get_or table (2 * r) 0)
+      → LeavesPutTo table cs n b i ws ws₁
+      → WrotePair ws₁ ws₂ (pair_at n i 1) (get_or table (2 * r) 0)
       (get_or table (2 * r + 1) 0) → LeavesPutTo table cs n b (i + 1) ws ws₂
   laid_more {i} {r} {ws} {ws₁} {ws₂} h x f w = record {
     takes = λ k l q y. go k l q y (dec_lt k i);
-    past =
-        past_then f.past (kept_past n i 1 (omega arith) w.kept);
+    past = past_then f.past (kept_past n i 1 (omega arith) w.kept);
   }
     where
       go : (k : ℕ) → k < i + 1 → (q : ℕ) → Slot cs b k q → Dec (k < i) → TakesPair table ws₂ n k q
@@ -169,8 +167,7 @@ module _ {table : List ℕ} {cs : List Cell} {n b : ℕ} where
           let z = f.takes k m q y in
           record {
             first = first_kept ws₁ ws₂ n (pair_at n i 1) w.kept k 1 o ∙ z.first;
-            second =
-                second_kept ws₁ ws₂ n (pair_at n i 1) w.kept k 1 o ∙ z.second;
+            second = second_kept ws₁ ws₂ n (pair_at n i 1) w.kept k 1 o ∙ z.second;
           }
       go k l q y (no m) =
           let e : i ≡ k = omega arith in
@@ -180,7 +177,8 @@ module _ {table : List ℕ} {cs : List Cell} {n b : ℕ} where
 
   -- the empty word's pair is the first
   pub laid_all : {ws ws₁ ws₂ : List ℕ} {i : ℕ} → n ≤ i → LeavesPutTo table cs n b i ws ws₁
-      → WrotePair ws₁ ws₂ 0 (get_or table 130 0) (get_or table 131 0) → LeavesPut table cs n b ws ws₂
+      → WrotePair ws₁ ws₂ 0 (get_or table 130 0) (get_or table 131 0)
+      → LeavesPut table cs n b ws ws₂
   laid_all {ws} {ws₁} {ws₂} {i} h f w = record {
     tokens = record {
       takes = λ k l r x.

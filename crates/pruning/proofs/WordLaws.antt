@@ -29,11 +29,13 @@ use Rattle.pruning.proofs.TableLaws.{other_pair}
 use Rattle.pruning.proofs.RefutingLaws.{placed_terminal}
 
 -- a pair that is as it was has, and allows for, what it did
-leaf_as : (g : Rules) (n : ℕ) (ws ws' : List ℕ) (i x : ℕ) → first_word ws' n i 1 ≡ first_word ws n i 1
+leaf_as : (g : Rules) (n : ℕ) (ws ws' : List ℕ) (i x : ℕ)
+    → first_word ws' n i 1 ≡ first_word ws n i 1
     → second_word ws' n i 1 ≡ second_word ws n i 1 → LeafAt g n ws i x → LeafAt g n ws' i x
 leaf_as g n ws ws' i x e f m = subst₂ (Leaf g x) (sym e) (sym f) m
 
-may_as : (g : Rules) (n : ℕ) (ws ws' : List ℕ) (i x : ℕ) → first_word ws' n i 1 ≡ first_word ws n i 1
+may_as : (g : Rules) (n : ℕ) (ws ws' : List ℕ) (i x : ℕ)
+    → first_word ws' n i 1 ≡ first_word ws n i 1
     → second_word ws' n i 1 ≡ second_word ws n i 1 → May g n ws i x → May g n ws' i x
 may_as g n ws ws' i x e f m = subst₂ (Allows g x) (sym e) (sym f) m
 

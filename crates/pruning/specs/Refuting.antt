@@ -1,7 +1,8 @@
 -- What is known while a block of candidates is refuted: first the terminals of the tokens from the
 -- last one backward to token b, all positions from b on being open, then the positions from b on
 -- (inner: only the proofs of the search need it).
-use Rattle.std.specs.Prelude.{◌≡◌, Bool, true, false, List, [], ◌∷◌, ℕ, zero, suc, ◌+◌, ◌*◌, ◌/◌, ◌%◌, ◌≤◌, ◌<◌, length, get_or, take}
+use Rattle.std.specs.Prelude.{◌≡◌, Bool, true, false, List, [], ◌∷◌, ℕ, zero, suc, ◌+◌, ◌*◌, ◌/◌}
+use Rattle.std.specs.Prelude.{◌%◌, ◌≤◌, ◌<◌, length, get_or, take}
 use Rattle.grammar.specs.declared.Cell.{Cell}
 use Rattle.grammar.specs.Trees.{Rules, TwoTrees}
 use Rattle.grammar.specs.Candidates.{Candidate, sentence}
@@ -76,7 +77,8 @@ pub record Moved (n i k : ℕ) (cs cs' : List Cell) : Type 0 where
 -- twins
 pub record PositionsTwinned (g : Rules) (s n h i m : ℕ) (cs : List Cell) : Type 0 where
   pub twin : (ds : List Cell) → Candidate (Among s) n ds → Shares i ds cs → Spelt n i ds cs
-      → (get_or ds i no_cell).step * n + (get_or ds i no_cell).column ≤ m → TwoTrees g 0 (sentence ds)
+      → (get_or ds i no_cell).step * n + (get_or ds i no_cell).column ≤ m
+      → TwoTrees g 0 (sentence ds)
       → Twin g s n h ds
 
 -- the column of the cell before i, which is p before the first

@@ -20,7 +20,8 @@ pub record Tabled (g : Rules) (s : ℕ) (table : List ℕ) : Type 0 where
 
 -- so far: of the terminals below m, and p and q have what their pairs have
 pub record Gathered (g : Rules) (s m : ℕ) (table table' : List ℕ) (p q : ℕ) : Type 0 where
-  pub leaf : (x : ℕ) → x < m → In s x → Leaf g x (get_or table' (2 * x) 0) (get_or table' (2 * x + 1) 0)
+  pub leaf : (x : ℕ) → x < m → In s x
+      → Leaf g x (get_or table' (2 * x) 0) (get_or table' (2 * x + 1) 0)
   pub any : (x : ℕ) → x < m → In s x → Allows g x p q
   pub past : Past 128 table table'
 

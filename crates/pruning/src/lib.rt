@@ -185,7 +185,8 @@ fn positions(
     requires n_in_bounds { 2 * pairs n ≤ length words.old }
     requires positions_filled { PositionsFilled (rules_of g) n b (cells c 0 n) words.old }
     requires mirrored { Mirrored (rules_of g) n words.old cuts.old }
-    ensures all_positions_searched { AllPositionsSearched result (rules_of g) n h b (cells c 0 n) words.old
+    ensures all_positions_searched { AllPositionsSearched result (rules_of g) n h b (cells c 0 n)
+        words.old
         words.new }
     ensures mirrored_2 { Mirrored (rules_of g) n words.new cuts.new }
 {

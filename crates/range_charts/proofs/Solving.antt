@@ -103,7 +103,8 @@ module _ (ws ws' : List ℕ) (g : Rules) (n s len : ℕ) (k : SpanMarks)
     q.3,
   )
 
-  below_there : (l : ℕ) → 0 < l → l < len → (c : Clause) → Fits (One ws n) (by_marks k len) s len c l
+  below_there : (l : ℕ) → 0 < l → l < len → (c : Clause)
+      → Fits (One ws n) (by_marks k len) s len c l
       → Below (Two ws n) s len c l → Below (Two ws' n) s len c l
   below_there l a b Clause.Empty q r = r
   below_there l a b (Clause.Atom c d) q r = r
@@ -113,7 +114,8 @@ module _ (ws ws' : List ℕ) (g : Rules) (n s len : ℕ) (k : SpanMarks)
       (λ z. inr (to C (sym (x.second (s + l) (len - l) (omega arith) (omega arith)
       (omega arith))) z)) r
 
-  below_back : (l : ℕ) → 0 < l → l < len → (c : Clause) → Fits (One ws' n) (by_marks k len) s len c l
+  below_back : (l : ℕ) → 0 < l → l < len → (c : Clause)
+      → Fits (One ws' n) (by_marks k len) s len c l
       → Below (Two ws' n) s len c l → Below (Two ws n) s len c l
   below_back l a b Clause.Empty q r = r
   below_back l a b (Clause.Atom c d) q r = r
@@ -169,7 +171,8 @@ module _ (ws ws' : List ℕ) (g : Rules) (n s len : ℕ) (k : SpanMarks)
   solved_wrote pos p t sp cl e f = record {
     inner = p;
     splits = splits_same p sp;
-    closure = subst₂ (λ (a b : ℕ). Closure (span_links g (UnaryBy k) (get_or ws' 0 0) (get_or ws' 1 0)) p
+    closure =
+        subst₂ (λ (a b : ℕ). Closure (span_links g (UnaryBy k) (get_or ws' 0 0) (get_or ws' 1 0)) p
         (record { one = a; two = b })) (sym e) (sym f) (closure_same pos p t cl);
   }
 
@@ -266,7 +269,8 @@ module _ (ws ws' : List ℕ) (g : Rules) (rs : Ranges) (n s len : ℕ) (k : Span
 pub small_same : (ws : List ℕ) (n : ℕ) → Small ws ws n
 small_same ws n = record { first = λ a b x y. refl; second = λ a b x y. refl }
 
-pub small_then : {ws ws' ws'' : List ℕ} {n : ℕ} → Small ws ws' n → Small ws' ws'' n → Small ws ws'' n
+pub small_then : {ws ws' ws'' : List ℕ} {n : ℕ} → Small ws ws' n → Small ws' ws'' n
+    → Small ws ws'' n
 small_then f g = record {
   first = λ a b x y. g.first a b x y
       ∙ f.first a b x y;
@@ -328,8 +332,7 @@ pub advanced_all : {ws ws' : List ℕ} {g : Rules} {rs : Ranges} {n from : ℕ}
     → Advances ws ws' g rs n from 0 → Solves ws ws' g rs n
 advanced_all {ws} {ws'} {g} {rs} {n} {from} x = record {
   each = λ a b two in-n. x.solved.each a b two in-n (go a b in-n (ℕ_discrete a 0));
-  small =
-      x.small;
+  small = x.small;
   past = x.past;
 }
   where

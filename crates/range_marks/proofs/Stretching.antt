@@ -35,7 +35,8 @@ highest_long : (rs : Ranges) → length (highest rs) ≡ length rs
 highest_long [] = refl
 highest_long (r ∷ rs) = ap suc (highest_long rs)
 
-highest_at : (rs : Ranges) (i : ℕ) → i < length rs → token_at (highest rs) i ≡ high_token (range rs i)
+highest_at : (rs : Ranges) (i : ℕ) → i < length rs
+    → token_at (highest rs) i ≡ high_token (range rs i)
 highest_at [] i h = absurd (omega arith)
 highest_at (r ∷ rs) zero h = refl
 highest_at (r ∷ rs) (suc i) h = highest_at rs i (omega arith)
@@ -46,7 +47,8 @@ module _ (rs : Ranges) (s : ℕ) where
 
   pub seen_here : s < length rs → token_at (seen_from rs s) s ≡ low_token (range rs s)
   seen_here h =
-      get_or-set_same (highest rs) s (low_token (range rs s)) no_token (omega (arith, highest_long rs))
+      get_or-set_same (highest rs) s (low_token (range rs s)) no_token
+      (omega (arith, highest_long rs))
 
   pub seen_there : (i : ℕ) → i < length rs → (i ≡ s → ⊥)
       → token_at (seen_from rs s) i ≡ high_token (range rs i)
@@ -155,8 +157,7 @@ module _ (rs : Ranges) (s l : ℕ) (k r : SpanMarks) (pos : 0 < l) (h : s + l < 
         record {
           flag = true;
           says = holds e;
-          included =
-              record { is = λ z. refl; isnt = λ z. absurd (true_not_false z) };
+          included = record { is = λ z. refl; isnt = λ z. absurd (true_not_false z) };
         },
       )
       go (no d) = (

@@ -18,7 +18,8 @@ use Rattle.range_marks.proofs.Stretching.{seen_long, seen_here, seen_there}
 module _ (rs rs' : Ranges) (s len : ℕ) (size : length rs' ≡ length rs) (fit : s + len ≤ length rs)
     (pos : 0 < len)
     (same : (i : ℕ) → s ≤ i → i < s + len → range rs' i ≡ range rs i) where
-  seen_same : (i : ℕ) → i < len → token_at (seen_from rs' s) (s + i) ≡ token_at (seen_from rs s) (s + i)
+  seen_same : (i : ℕ) → i < len → token_at (seen_from rs' s) (s + i)
+      ≡ token_at (seen_from rs s) (s + i)
   seen_same i h = go (ℕ_discrete (s + i) s)
     where
       go : Dec (s + i ≡ s) → token_at (seen_from rs' s) (s + i) ≡ token_at (seen_from rs s) (s + i)

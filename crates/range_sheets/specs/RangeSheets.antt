@@ -2,7 +2,8 @@
 -- docs/FORMAT.md, "The range sheet": refusals 11, 14, 12, 13, 48, then 49.
 use Rattle.std.specs.Prelude.{ℕ, List, [], ◌∷◌, Bool, cond, leb}
 use Rattle.fields.specs.Pieces.{pieces}
-use Rattle.sheets.specs.Items.{Reading, accepted, refused, Step, next, stop, line_step_of, items_from}
+use Rattle.sheets.specs.Items.{Reading, accepted, refused, Step, next, stop, line_step_of}
+use Rattle.sheets.specs.Items.{items_from}
 use Rattle.sheets.specs.Items.{with_names}
 use Rattle.column_ranges.specs.declared.RangeToken.{RangeToken}
 use Rattle.column_ranges.specs.Ranges.{Ranges, choice_count, choice_limit}

@@ -79,7 +79,8 @@ module _ {g : Rules} {s i : ℕ} {out : Rules} (f : Picked g s i out) where
           → (p : ℕ) × (p < length more) × (get_or more p no_rule ≡ get_or g q no_rule)
       keeps q l k = go (dec_lt q i)
         where
-          go : Dec (q < i) → (p : ℕ) × (p < length more) × (get_or more p no_rule ≡ get_or g q no_rule)
+          go : Dec (q < i) → (p : ℕ) × (p < length more)
+              × (get_or more p no_rule ≡ get_or g q no_rule)
           go (yes x) = let y = f.keeps q x k in
               (y.0, omega (arith, y.1, long), old y.0 y.1 ∙ y.2)
           go (no x) = (

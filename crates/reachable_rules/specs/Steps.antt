@@ -22,7 +22,8 @@ AddsParts s r Y = ((r.left ≡ 0) ⊎ In s r.left) × HasPart r.clause Y
 -- out has those of the first i rules of g whose left is in s, each from a place of g
 pub record Picked (g : Rules) (s i : ℕ) (out : Rules) : Type 0 where
   pub of : (p : ℕ) → p < length out
-      → (q : ℕ) × (q < i) × (get_or out p no_rule ≡ get_or g q no_rule) × In s (get_or g q no_rule).left
+      → (q : ℕ) × (q < i) × (get_or out p no_rule ≡ get_or g q no_rule)
+      × In s (get_or g q no_rule).left
   pub keeps : (q : ℕ) → q < i → In s (get_or g q no_rule).left
       → (p : ℕ) × (p < length out) × (get_or out p no_rule ≡ get_or g q no_rule)
   pub distinct : Distinct g → Distinct out

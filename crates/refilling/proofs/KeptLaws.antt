@@ -25,7 +25,8 @@ use Rattle.tables.specs.Tables.{One, Two, rule}
 use Rattle.cuts.specs.declared.Pair.{Pair}
 use Rattle.cuts.specs.declared.BinaryRules.{BinaryRules}
 use Rattle.cuts.specs.declared.Masks.{Masks}
-use Rattle.cuts.specs.Cuts.{words_of_of, mask_of, Meets, Doubled, CutFits, CutBelow, CutStand, CutCounts}
+use Rattle.cuts.specs.Cuts.{words_of_of, mask_of, Meets, Doubled, CutFits, CutBelow, CutStand}
+use Rattle.cuts.specs.Cuts.{CutCounts}
 use Rattle.cuts.specs.Cuts.{WordsSay, Ends, Starts, Row, Column}
 use Rattle.cuts.proofs.CountLaws.{counts_view}
 use Rattle.cuts.specs.Places.{IsBinary, PlacedAt, Placed}
@@ -310,7 +311,8 @@ end_words kept j A = λ i. record { one = one i; two = two i }
     one : get_or (end_columns kept j) (128 * j + 2 * A) 0 ≡ get_or kept (column_at j + 2 * A) 0
     one = from_there kept j (128 * j + 2 * A) (column_at j + 2 * A) (omega arith)
 
-    two : get_or (end_columns kept j) (128 * j + 2 * A + 1) 0 ≡ get_or kept (column_at j + 2 * A + 1) 0
+    two : get_or (end_columns kept j) (128 * j + 2 * A + 1) 0
+        ≡ get_or kept (column_at j + 2 * A + 1) 0
     two = from_there kept j (128 * j + 2 * A + 1) (column_at j + 2 * A + 1) (omega arith)
 
 pub column_says : {ws kept : List ℕ} {n j : ℕ} → j ≤ n → Mirror ws n kept

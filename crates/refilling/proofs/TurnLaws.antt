@@ -222,7 +222,8 @@ pair_turned {ws} {ws₁} {ws₂} {p} {c} old new x y u v b f g = record {
 
     two_of : (A : ℕ) (P : ℕ → Type 0) → P (get_or ws (p + 2 * A + 1) 0)
         → P (get_or ws₁ (p + 1 + 2 * A) 0)
-    two_of A P h = subst (λ (z : ℕ). P (get_or ws₁ z 0)) (sym (place A)) (subst P (sym (two_as A)) h)
+    two_of A P h =
+        subst (λ (z : ℕ). P (get_or ws₁ z 0)) (sym (place A)) (subst P (sym (two_as A)) h)
 
     two_from : (A : ℕ) (P : ℕ → Type 0) → P (get_or ws₁ (p + 1 + 2 * A) 0)
         → P (get_or ws (p + 2 * A + 1) 0)

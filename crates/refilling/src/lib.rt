@@ -179,7 +179,8 @@ fn kept_splits(kept: &[u64], g: Grammar, start: usize, end: usize, w: Masks) -> 
 // What stands over it, by the table of chains too; `k` are its marks.
 fn find(kept: &[u64], g: Grammar, k: SpanMarks, start: usize, len: usize) -> Pair
     requires formed { Formed g × Prepared (rules_of g) kept.now }
-    requires len_nonzero { (0 < len) × (start + len ≤ 64) × (kept_for (start + len) ≤ length kept.now) }
+    requires len_nonzero { (0 < len) × (start + len ≤ 64)
+        × (kept_for (start + len) ≤ length kept.now) }
     ensures { Found (start_rows kept.now start)
         (end_columns kept.now (start + len)) (chains_of kept.now) (rules_of g) k
         start len result }

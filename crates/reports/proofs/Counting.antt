@@ -60,7 +60,8 @@ module _ (s : List ℕ) (at : ℕ) where
       go l = at_left l.left refl
         where
           at_left : (v : Word) → l.left ≡ v
-              → (t : Token) × ReportToken t × (v : Word) × (drop i s ≡ token_text_of t ++ token_lines v)
+              → (t : Token) × ReportToken t × (v : Word)
+              × (drop i s ≡ token_text_of t ++ token_lines v)
               × (n < length w)
           at_left [] q =
               absurd (omega (arith, length-drop i s, ap length (l.is ∙ ap token_lines q)))

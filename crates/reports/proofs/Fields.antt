@@ -23,7 +23,8 @@ behind {s} {at} {most} {end} {v} {next} w t l x e =
 module _ (s : List ℕ) (at : ℕ) where
   -- 1. a pair
 
-  pub pair_there : {q m a b : ℕ} → Numbered s at sweep_limit 32 q a → Numbered s a sweep_limit 32 m b
+  pub pair_there : {q m a b : ℕ} → Numbered s at sweep_limit 32 q a
+      → Numbered s a sweep_limit 32 m b
       → PairTo s at b
   pair_there {q} {m} x y =
       record {
@@ -31,8 +32,7 @@ module _ (s : List ℕ) (at : ℕ) where
         remainder = m;
         low = x.small;
         small = y.small;
-        inside =
-            y.inside;
+        inside = y.inside;
         is = x.is ∙ ap (λ (l : List ℕ). decimal q ++ (32 ∷ l)) y.is;
       }
 

@@ -23,7 +23,8 @@ use Rattle.reports.specs.Rests.{pair_text}
 use Rattle.reports.proofs.Beginnings.{clear_begins, two_begins, refusal_begins}
 use Rattle.reports.proofs.TokenTexts.{token_same, token_some}
 
-words_same : (w v : Word) → Every ReportToken w → Every ReportToken v → token_lines w ≡ token_lines v
+words_same : (w v : Word) → Every ReportToken w → Every ReportToken v
+    → token_lines w ≡ token_lines v
     → w ≡ v
 words_same [] [] p q e = refl
 words_same [] (t ∷ v) p q e = absurd (omega (arith, token_some t (token_lines v), ap length e))
@@ -52,7 +53,8 @@ refused_at f l = ap (λ (t : List ℕ). get_or t 12 0) (refusal_begins f l)
 clear_at : (q m : ℕ) → get_or (report_text (share_reply_of Answer.Clear 0 q m [])) 12 0 ≡ 99
 clear_at q m = ap (λ (t : List ℕ). get_or t 12 0) (clear_begins q m)
 
-two_at : (N q m : ℕ) (w : Word) → get_or (report_text (share_reply_of Answer.Two N q m w)) 12 0 ≡ 116
+two_at : (N q m : ℕ) (w : Word)
+    → get_or (report_text (share_reply_of Answer.Two N q m w)) 12 0 ≡ 116
 two_at N q m w = ap (λ (t : List ℕ). get_or t 12 0) (two_begins N q m w)
 
 texts_same : {a b : ShareReply} → Report a → Report b → report_text a ≡ report_text b → a ≡ b

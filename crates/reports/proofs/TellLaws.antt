@@ -46,8 +46,7 @@ module _ (s : List ℕ) where
           let p = x.written ∙ ap report_text e ∙ two_begins N q m w in
           with_two
           (record {
-            rest =
-                pair_text q m (decimal N ++ (10 ∷ (token_names ++ (10 ∷ token_lines w))));
+            rest = pair_text q m (decimal N ++ (10 ∷ (token_names ++ (10 ∷ token_lines w))));
             is = p;
           })
           (record {
@@ -57,8 +56,7 @@ module _ (s : List ℕ) where
             small = j;
             least = h;
             word = w;
-            tokens =
-                record { nonempty = a; few = b; good = g };
+            tokens = record { nonempty = a; few = b; good = g };
             count = refl;
             is = ap (drop 44) p;
           })
@@ -164,7 +162,8 @@ module _ (s : List ℕ) where
 
   -- 4. none of these
 
-  pub none_tells : (Starts s clear_start → ⊥) → (Starts s two_start → ⊥) → (Starts s refused_start → ⊥)
+  pub none_tells : (Starts s clear_start → ⊥) → (Starts s two_start → ⊥)
+      → (Starts s refused_start → ⊥)
       → TellsOf s Told.Not
   none_tells a b c r y = go (begins y)
     where

@@ -25,7 +25,8 @@ pub data Report (r : ShareReply) : Type 0 where
   a_refusal : {f : Fault} {l : ℕ} → l ≤ sweep_limit → r ≡ share_refusal f l → Report r
   a_clear : {q m : ℕ} → q ≤ sweep_limit → m ≤ sweep_limit → r ≡ share_reply_of Answer.Clear 0 q m []
       → Report r
-  a_two : {N q m : ℕ} (w : Word) → N ≤ sweep_limit → q ≤ sweep_limit → m ≤ sweep_limit → 1 ≤ length w
+  a_two : {N q m : ℕ} (w : Word) → N ≤ sweep_limit → q ≤ sweep_limit → m ≤ sweep_limit
+      → 1 ≤ length w
       → length w ≤ 7 → Every ReportToken w → r ≡ share_reply_of Answer.Two N q m w → Report r
 
 -- the text of a report

@@ -17,7 +17,8 @@ use Rattle.fields.proofs.Fields.{with_holds}
 use Rattle.fields.proofs.Lines.{more_left}
 use Rattle.lines.specs.declared.Turn.{Turn}
 use Rattle.lines.specs.Turns.{turn_of}
-use Rattle.sheets.specs.Items.{Step, next, stop, end, accepted, refused, step_at_of, on_step, items_from}
+use Rattle.sheets.specs.Items.{Step, next, stop, end, accepted, refused, step_at_of, on_step}
+use Rattle.sheets.specs.Items.{items_from}
 use Rattle.sheets.specs.RuleSheets.{any_of}
 use Rattle.sheets.proofs.Loop.{line_cut, line_less}
 use Rattle.tree_view.proofs.Members.{member_none}
@@ -33,7 +34,8 @@ use Rattle.rights.specs.Answers.{RightsHeld}
 -- 1. a line by what it is
 
 pub step_turn : (line : List ℕ) (ended : Bool)
-    → step_at_of 50 50 (right_said (right_line line)) (turn_of 1 0 line ended) ≡ right_line_step line ended
+    → step_at_of 50 50 (right_said (right_line line)) (turn_of 1 0 line ended)
+    ≡ right_line_step line ended
 step_turn line true = refl
 step_turn line false = go (is_empty line)
   where

@@ -1,4 +1,4 @@
--- What a rights line says: 02, "Closed sections on a shared tour", and the conditions of 50.
+-- What a rights line says: docs/FORMAT.md, "Calls and lent memory", and refusal 50.
 use Rattle.std.specs.Prelude.{ℕ, List, [], ◌∷◌, Bool, true, false, cond, ◌&&◌, leb}
 use Rattle.std.proofs.Math.Option.{Option, none, some}
 use Rattle.fields.specs.Pieces.{pieces, same_bytes}

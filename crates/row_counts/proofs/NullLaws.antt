@@ -20,7 +20,8 @@ use Rattle.rows.specs.declared.Step.{Step}
 use Rattle.tree_choices.specs.Picks.{PickedStep}
 use Rattle.tree_choices.proofs.Pending.{node_shape}
 use Rattle.row_counts.specs.Capped.{capped}
-use Rattle.row_counts.specs.Nulls.{Nulls, Sound, one_more_of, two_more_of, null_size, KidsKnown, zeros}
+use Rattle.row_counts.specs.Nulls.{Nulls, Sound, one_more_of, two_more_of, null_size, KidsKnown}
+use Rattle.row_counts.specs.Nulls.{zeros}
 use Rattle.row_counts.specs.Nulls.{NullsTried}
 use Rattle.sets.specs.Either.{Either}
 use Rattle.row_counts.proofs.Firsts.{first_shape}
@@ -142,7 +143,8 @@ module _ {g : Rules} where
   passed_none D s f =
       record { sound = s; found = λ e. absurd (clash cc); same = λ e. refl; tried = λ e. f }
 
-  pub passed_found : {l : List ℕ} (A n : ℕ) (t : Tree) → Sound g l → A < 64 → get_or l A 0 ≡ 0 → 0 < n
+  pub passed_found : {l : List ℕ} (A n : ℕ) (t : Tree) → Sound g l → A < 64 → get_or l A 0 ≡ 0
+      → 0 < n
       → FirstTree g A [] t → n ≡ capped (row_count t) → NullsTried g (λ B. B ≡ A) l (set l A n) true
   passed_found {l} A n t s h e p f q =
       record {
@@ -211,8 +213,7 @@ module _ {g : Rules} where
       (record {
         long = sound.long;
         small = λ A. small l sound A;
-        count =
-            λ A t h f. known_count l sound A t f (all t f.first f.spelled A f);
+        count = λ A t h f. known_count l sound A t f (all t f.first f.spelled A f);
       })
     where
       sound : Sound g l

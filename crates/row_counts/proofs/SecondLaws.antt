@@ -66,7 +66,8 @@ module _ {g : Grammar} {w : Word} {st : Step} {i l : ℕ} (f : Formed g)
   under_none (unary A t) p k = absurd (omega (arith, ap (λ (y : Step). y.kind) p.shaped))
   under_none (binary A t u) p k = absurd (omega (arith, ap (λ (y : Step). y.kind) p.shaped))
 
-  pub under_two : (u : Tree) → Parted (rules_of g) w st i l u → (st.kind < 2 → ⊥) → (st.kind ≡ 2 → ⊥)
+  pub under_two : (u : Tree) → Parted (rules_of g) w st i l u → (st.kind < 2 → ⊥)
+      → (st.kind ≡ 2 → ⊥)
       → Two (rules_of g) w st i l u
   under_two (empty A) p k m = absurd (k (omega (arith, ap (λ (y : Step). y.kind) p.shaped)))
   under_two (leaf A y) p k m = absurd (k (omega (arith, ap (λ (y : Step). y.kind) p.shaped)))
@@ -177,13 +178,15 @@ module _ {g : Grammar} {w : Word} {goal a i l total : ℕ} (f : Formed g)
 
     -- it goes on
     aim_fork : (m : Bool) → m ≡ true → Aim (rules_of g) m (kids x.second i ++ [])
-        → (ts : List Pending) × AllFirst (rules_of g) ts × Fork (rules_of g) ts (kids x.second i ++ [])
+        → (ts : List Pending) × AllFirst (rules_of g) ts
+        × Fork (rules_of g) ts (kids x.second i ++ [])
     aim_fork true e h = h
     aim_fork false e h = absurd (clash cc)
 
     module _ (seek : st.seeking ≡ true) (ws : List ℕ) (sheet : SpanSheet (rules_of g) w ws) where
       two_of : {t u : Tree} (s n : ℕ) → s + n ≤ length w → AllPreferred (rules_of g) t
-          → Second (rules_of g) t u → word t ≡ part w s n → In (second_word ws (length w) s n) (root t)
+          → Second (rules_of g) t u → word t ≡ part w s n
+          → In (second_word ws (length w) s n) (root t)
       two_of {t} s n h p q e =
           (sheet.two s n (root t) h (root_small f t p)).1
           (two_trees f.distinct (record
@@ -251,8 +254,7 @@ module _ {g : Grammar} {w : Word} {goal a i l total : ℕ} (f : Formed g)
                 beside =
                     record {
                       small = λ m. rw y.4 (omega (arith, root_small f u' fs.1.0));
-                      fits =
-                          λ m. rw (y.5, y.6) fr;
+                      fits = λ m. rw (y.5, y.6) fr;
                       there = λ m. record { tree = u'; first = ft' };
                     };
                 on =
@@ -284,8 +286,7 @@ module _ {g : Grammar} {w : Word} {goal a i l total : ℕ} (f : Formed g)
                 beside =
                     record {
                       small = λ m. rw y.4 (omega (arith, root_small f u fs.0));
-                      fits =
-                          λ m. rw (y.5, y.6) fl;
+                      fits = λ m. rw (y.5, y.6) fl;
                       there = λ m. record { tree = u; first = ft' };
                     };
                 on =

@@ -11,7 +11,8 @@ use Rattle.row_counts.specs.declared.RowCount.{RowCount}
 -- lacks
 pub data Counted (g : Rules) (w : Word) (m n : ℕ) : Type 0 where
   treeless : NoTree g 0 w → m ≡ 0 → n ≡ 0 → Counted g w m n
-  single : {t : Tree} → OneTree g 0 w → FirstTree g 0 w t → m ≡ row_count t → n ≡ 0 → Counted g w m n
+  single : {t : Tree} → OneTree g 0 w → FirstTree g 0 w t → m ≡ row_count t → n ≡ 0
+      → Counted g w m n
   both : {t u : Tree} → TwoTrees g 0 w → FirstTree g 0 w t → SecondTree g 0 w u → m ≡ row_count t
       → n ≡ row_count u → Counted g w m n
 

@@ -1,6 +1,7 @@
 -- What the writer has to know of a node, and the pending entries of its children. For the contracts
 -- of inner functions only.
-use Rattle.std.specs.Prelude.{◌≡◌, Bool, List, [], ◌∷◌, ◌++◌, ℕ, zero, suc, ◌+◌, ◌*◌, ◌-◌, ◌≤◌, length, take, drop}
+use Rattle.std.specs.Prelude.{◌≡◌, Bool, List, [], ◌∷◌, ◌++◌, ℕ, zero, suc, ◌+◌, ◌*◌, ◌-◌, ◌≤◌}
+use Rattle.std.specs.Prelude.{length, take, drop}
 use Rattle.grammar.specs.declared.Clause.{Clause}
 use Rattle.rows.specs.declared.Step.{Step}
 

@@ -57,7 +57,8 @@ module _ {g : Rules} {m : ℕ} {l : List ℕ} where
       go : (i : ℕ) → i < m + 1 → Dec (i ≡ m)
           → FirstOf g (rule g i).left (i + 1) (get_or (set l (64 + m) r) (64 + i) 0)
       go i k (yes e) =
-          rw e (subst (FirstOf g (rule g m).left (m + 1)) (sym (get_or-set_same l (64 + m) r 0 h)) y)
+          rw e (subst (FirstOf g (rule g m).left (m + 1)) (sym (get_or-set_same l (64 + m) r 0 h))
+          y)
       go i k (no e) = subst (FirstOf g (rule g i).left (i + 1))
           (sym (get_or-set_other l (64 + m) (64 + i) r 0 (λ z. e (omega arith))))
           (x.next i (omega arith))

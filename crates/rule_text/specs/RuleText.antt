@@ -1,5 +1,5 @@
--- A rule sheet's bytes for given rules: 01, "The two sheets", with numbers written plainly; request
--- 5, terminals in `second`.
+-- A rule sheet's bytes for given rules: docs/FORMAT.md, "Bytes, lines, fields, numbers", with
+-- numbers written plainly, terminals in `second`.
 use Rattle.std.specs.Prelude.{cond, List, [], ◌∷◌, ◌++◌, ℕ, eqb}
 use Rattle.grammar.specs.declared.UnaryMark.{UnaryMark}
 use Rattle.grammar.specs.declared.BinaryMark.{BinaryMark}
@@ -32,7 +32,8 @@ last_terminal_of a b = cond (eqb a b) dash (field b)
 -- kind, first, second and lay: E, A, U, B
 unfoldable pub clause_text : Clause → List ℕ
 clause_text Clause.Empty = 69 ∷ 32 ∷ (dash ++ (dash ++ unary_lay_of UnaryMark.None))
-clause_text (Clause.Atom a b) = 65 ∷ 32 ∷ (field a ++ (last_terminal_of a b ++ unary_lay_of UnaryMark.None))
+clause_text (Clause.Atom a b) =
+    65 ∷ 32 ∷ (field a ++ (last_terminal_of a b ++ unary_lay_of UnaryMark.None))
 clause_text (Clause.Unary a m) = 85 ∷ 32 ∷ (field a ++ (dash ++ unary_lay_of m))
 clause_text (Clause.Binary a b m) = 66 ∷ 32 ∷ (field a ++ (field b ++ binary_lay_of m))
 

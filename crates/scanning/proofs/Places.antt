@@ -37,8 +37,7 @@ module _ (s : List ℕ) (at most : ℕ) where
         inside = omega arith;
         from = omega (arith, x.from);
         small = m;
-        read =
-            inr (n, go x.read);
+        read = inr (n, go x.read);
       }
     where
       front : drop i s ≡ b ∷ drop (i + 1) s
@@ -99,7 +98,8 @@ module _ (s : List ℕ) (at most : ℕ) where
 
   pub stop_high : {v i : ℕ} → Reached v i → i < length s → 48 ≤ get_or s i 0 → 57 < get_or s i 0
       → DigitsAt s at most (record { value = v; next = i })
-  stop_high {v} {i} x h l u = stop x (rw (next i h) (run_high v (get_or s i 0) (drop (i + 1) s) l u))
+  stop_high {v} {i} x h l u =
+      stop x (rw (next i h) (run_high v (get_or s i 0) (drop (i + 1) s) l u))
 
   -- it stops where the number would be above `most`
   pub stop_most : {v i : ℕ} → Reached v i → i < length s → 48 ≤ get_or s i 0 → get_or s i 0 ≤ 57
@@ -108,8 +108,7 @@ module _ (s : List ℕ) (at most : ℕ) where
     read = go x.read;
     inside = x.inside;
     small = x.small;
-    only =
-        λ w f t k j p. absurd (only w f t k j p);
+    only = λ w f t k j p. absurd (only w f t k j p);
   }
     where
       go : ((i ≡ at) × (v ≡ 0)) ⊎ ((1 ≤ v) × (drop at s ≡ decimal v ++ drop i s))

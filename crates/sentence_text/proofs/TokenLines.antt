@@ -10,7 +10,8 @@ use Rattle.grammar.specs.Layout.{Word}
 use Rattle.printing.specs.Printing.{token_text_of, token_lines}
 
 -- one token more
-tokens_snoc : (w : Word) (t : Token) → token_lines (w ++ (t ∷ [])) ≡ token_lines w ++ token_text_of t
+tokens_snoc : (w : Word) (t : Token)
+    → token_lines (w ++ (t ∷ [])) ≡ token_lines w ++ token_text_of t
 tokens_snoc [] t = append-nil (token_text_of t)
 tokens_snoc (a ∷ w) t = ap (λ (l : List ℕ). token_text_of a ++ l) (tokens_snoc w t)
     ∙ sym (append_assoc (token_text_of a) (token_lines w) (token_text_of t))

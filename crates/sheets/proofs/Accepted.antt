@@ -128,7 +128,8 @@ get_elem?_snoc (a ∷ l) x (suc p) e =
 module _ (seen : Rules) (x : Rule) (d : Distinct seen)
     (fresh : any_of (has_key (key_of x)) seen ≡ false) where
   -- no rule seen has the key of x
-  apart : (p : ℕ) (r : Rule) → get_elem? seen p ≡ some r → same_key_of (key_of r) (key_of x) ≡ true → ⊥
+  apart : (p : ℕ) (r : Rule) → get_elem? seen p ≡ some r → same_key_of (key_of r) (key_of x) ≡ true
+      → ⊥
   apart p r st k = any_none (has_key (key_of x)) seen fresh (member_at seen p st) k
 
   distinct_snoc : Distinct (seen ++ x ∷ [])
@@ -142,9 +143,11 @@ module _ (seen : Rules) (x : Rule) (d : Distinct seen)
           → r.left ≡ s.left → Alike r.clause s.clause → p ≡ q
       go p q r s (inl e) (inl f) h a = d.one p q r s e f h a
       go p q r s (inl e) (inr f) h a = absurd
-          (apart p r e (ap (λ (y : Rule). same_key_of (key_of r) (key_of y)) f.1 ∙ key_same r s h a))
+          (apart p r e (ap (λ (y : Rule). same_key_of (key_of r) (key_of y)) f.1
+          ∙ key_same r s h a))
       go p q r s (inr e) (inl f) h a = absurd
-          (apart q s f (ap (λ (y : Rule). same_key_of (key_of s) (key_of y)) e.1 ∙ key_back r s h a))
+          (apart q s f (ap (λ (y : Rule). same_key_of (key_of s) (key_of y)) e.1
+          ∙ key_back r s h a))
       go p q r s (inr e) (inr f) h a = e.0 ∙ sym f.0
 
 -- what a sheet's rules are
@@ -170,7 +173,8 @@ said_kept : (seen : Rules) (line : List ℕ) (t : Rule) → Kept seen → rule_s
     → Kept (seen ++ t ∷ [])
 said_kept seen line t k e = go (rule_line_of line) refl e
   where
-    go : (x : RuleLine) → rule_line_of line ≡ x → rule_said_of seen x ≡ next t → Kept (seen ++ t ∷ [])
+    go : (x : RuleLine) → rule_line_of line ≡ x → rule_said_of seen x ≡ next t
+        → Kept (seen ++ t ∷ [])
     go RuleLine.Form h e = absurd (clash cc)
     go RuleLine.Range h e = absurd (clash cc)
     go RuleLine.Unfit h e = absurd (clash cc)
@@ -193,7 +197,8 @@ rule_small seen line u t e =
     go RuleLine.Range h e = absurd (clash cc)
     go RuleLine.Unfit h e = absurd (clash cc)
     go RuleLine.Reversed h e = absurd (clash cc)
-    go (RuleLine.Good r) h e = fresh_small r (line_small line r h) (any_of (has_key (key_of r)) seen) e
+    go (RuleLine.Good r) h e =
+        fresh_small r (line_small line r h) (any_of (has_key (key_of r)) seen) e
 
 pub rules_kept : (ps : List (List ℕ)) (w : Rules) → items_from rule_step [] ps ≡ accepted w → Kept w
 rules_kept ps w =
@@ -335,8 +340,7 @@ rules_good s w = names_accepted (refused 1 1) rule_names rules_from GoodRules
         record {
           few = items_few 128 6 2 rule_says ps v f.0;
           small = k.small;
-          distinct =
-              k.distinct;
+          distinct = k.distinct;
           start = f.1;
         }
 
@@ -356,7 +360,6 @@ tokens_good s w =
         → items_from (token_step wide) [] ps ≡ accepted v → GoodTokens v
     good wide ps v e = record {
       few = items_few 64 14 12 (token_says wide) ps v e;
-      wide =
-          (tokens_placed wide ps v e).wide;
+      wide = (tokens_placed wide ps v e).wide;
       rising = (tokens_placed wide ps v e).rising;
     }

@@ -32,7 +32,8 @@ pub record Reads (s : List ℕ) (start : ℕ) (b : Book) (at : ℕ) : Type 0 whe
 
 -- a line that gives a rule: there is room for it, and it is in range
 pub rule_fits : (seen : Rules) (n : ℕ) (line : List ℕ) (ended : Bool) {t : Rule}
-    → next t ≡ step_at_of 6 2 (rule_says seen line) (turn_of 128 n line ended) → (n < 128) × SmallRule t
+    → next t ≡ step_at_of 6 2 (rule_says seen line) (turn_of 128 n line ended)
+    → (n < 128) × SmallRule t
 rule_fits seen n line ended {t} e = (
   (next_only 128 6 2 n (rule_says seen line) line ended t e).0,
   rule_small seen line
@@ -49,7 +50,7 @@ adds_stop b {u} {f} e = adds_as b b (sym e) refl
 pub adds_end : (b : Book) {u : RuleStep} → u ≡ RuleStep.End → Adds b u b
 adds_end b {u} e = adds_as b b (sym e) refl
 
--- 02, request 7: a refused rule line changes neither rules nor index (`add_line` promises `Adds`)
+-- a refused rule line changes neither rules nor index (`add_line` promises `Adds`)
 pub refused_line_keeps : {b x : Book} (f : Fault) → Adds b (RuleStep.Stop f) x
     → (x.grammar ≡ b.grammar) × (x.index ≡ b.index)
 refused_line_keeps f e = (ap (λ (z : Book). z.grammar) e, ap (λ (z : Book). z.index) e)

@@ -104,9 +104,11 @@ module _ {A : Type 0} {most : ℕ} {many form : ℕ} {says : List A → List ℕ
         }
 
     pub stopped : {f : ℕ} → stop f ≡ made
-        → items_from (line_step_of most many form says) [] (pieces_from 10 s start) ≡ refused f (n + 2)
+        → items_from (line_step_of most many form says) [] (pieces_from 10 s start)
+        ≡ refused f (n + 2)
     stopped h = turn ∙ rw (← h, count) refl
 
-    pub ended : end ≡ made → items_from (line_step_of most many form says) [] (pieces_from 10 s start)
+    pub ended : end ≡ made → items_from (line_step_of most many form says) []
+        (pieces_from 10 s start)
         ≡ accepted (take n arr)
     ended h = turn ∙ rw (← h) refl

@@ -43,12 +43,14 @@ padded : rule_sheet (rule_names ++ 10 ∷ 48 ∷ 32 ∷ 65 ∷ 32 ∷ 48 ∷ 48 
     ∷ 111 ∷ 110 ∷ 101 ∷ 10 ∷ []) ≡ refused 3 2
 padded = refl
 
-padded_twice : rule_sheet (rule_names ++ 10 ∷ 48 ∷ 32 ∷ 85 ∷ 32 ∷ 49 ∷ 32 ∷ 45 ∷ 32 ∷ 110 ∷ 111 ∷ 110
+padded_twice : rule_sheet (rule_names ++ 10 ∷ 48 ∷ 32 ∷ 85 ∷ 32 ∷ 49 ∷ 32 ∷ 45 ∷ 32 ∷ 110 ∷ 111
+    ∷ 110
     ∷ 101 ∷ 10 ∷ 48 ∷ 32 ∷ 85 ∷ 32 ∷ 48 ∷ 48 ∷ 49 ∷ 32 ∷ 45 ∷ 32 ∷ 110 ∷ 111 ∷ 110 ∷ 101 ∷ 10 ∷ [])
     ≡ refused 5 3
 padded_twice = refl
 
-padded_much : rule_sheet (rule_names ++ 10 ∷ 48 ∷ 32 ∷ 65 ∷ 32 ∷ 48 ∷ 48 ∷ 48 ∷ 48 ∷ 48 ∷ 49 ∷ 32 ∷ 45
+padded_much : rule_sheet (rule_names ++ 10 ∷ 48 ∷ 32 ∷ 65 ∷ 32 ∷ 48 ∷ 48 ∷ 48 ∷ 48 ∷ 48 ∷ 49 ∷ 32
+    ∷ 45
     ∷ 32 ∷ 110 ∷ 111 ∷ 110 ∷ 101 ∷ 10 ∷ []) ≡ refused 2 2
 padded_much = refl
 
@@ -67,7 +69,8 @@ reversed_lay : rule_sheet (rule_names ++ 10 ∷ 48 ∷ 32 ∷ 65 ∷ 32 ∷ 50 �
 reversed_lay = refl
 
 -- a shared terminal: 0 A 1 3 none; 0 A 003 - none
-shared : rule_sheet (rule_names ++ 10 ∷ 48 ∷ 32 ∷ 65 ∷ 32 ∷ 49 ∷ 32 ∷ 51 ∷ 32 ∷ 110 ∷ 111 ∷ 110 ∷ 101
+shared : rule_sheet (rule_names ++ 10 ∷ 48 ∷ 32 ∷ 65 ∷ 32 ∷ 49 ∷ 32 ∷ 51 ∷ 32 ∷ 110 ∷ 111 ∷ 110
+    ∷ 101
     ∷ 10 ∷ 48 ∷ 32 ∷ 65 ∷ 32 ∷ 48 ∷ 48 ∷ 51 ∷ 32 ∷ 45 ∷ 32 ∷ 110 ∷ 111 ∷ 110 ∷ 101 ∷ 10 ∷ [])
     ≡ refused 5 3
 shared = refl
@@ -87,8 +90,7 @@ one : token_sheet (token_names ++ 10 ∷ 48 ∷ 32 ∷ 49 ∷ 32 ∷ 49 ∷ 10 �
       terminal = 0;
       line = record { 0 = 1 };
       column = record { 0 = 1 };
-      width =
-          record { 0 = 1 };
+      width = record { 0 = 1 };
     } ∷ [])
 one = refl
 
@@ -97,7 +99,8 @@ open_line : token_sheet (token_names ++ 10 ∷ 48 ∷ 32 ∷ 49 ∷ 32 ∷ 49 �
 open_line = refl
 
 -- one byte 10 too many
-ten_too_many : token_sheet (token_names ++ 10 ∷ 48 ∷ 32 ∷ 49 ∷ 32 ∷ 49 ∷ 10 ∷ 10 ∷ []) ≡ refused 12 3
+ten_too_many : token_sheet (token_names ++ 10 ∷ 48 ∷ 32 ∷ 49 ∷ 32 ∷ 49 ∷ 10 ∷ 10 ∷ [])
+    ≡ refused 12 3
 ten_too_many = refl
 
 -- 0 0 1
@@ -116,8 +119,7 @@ side_by_side : token_sheet (wide_names ++ 10 ∷ 48 ∷ 32 ∷ 49 ∷ 32 ∷ 49 
       terminal = 0;
       line = record { 0 = 1 };
       column = record { 0 = 1 };
-      width =
-          record { 0 = 9 };
+      width = record { 0 = 9 };
     } ∷ record {
       terminal = 0;
       line = record { 0 = 1 };
@@ -143,7 +145,8 @@ width_later : token_sheet (wide_names ++ 10 ∷ 48 ∷ 32 ∷ 48 ∷ 32 ∷ 49 �
 width_later = refl
 
 -- column plus width 65,536, then 65,537: 0 1 65281 255; 0 2 65282 255
-edge : token_sheet (wide_names ++ 10 ∷ 48 ∷ 32 ∷ 49 ∷ 32 ∷ 54 ∷ 53 ∷ 50 ∷ 56 ∷ 49 ∷ 32 ∷ 50 ∷ 53 ∷ 53
+edge : token_sheet (wide_names ++ 10 ∷ 48 ∷ 32 ∷ 49 ∷ 32 ∷ 54 ∷ 53 ∷ 50 ∷ 56 ∷ 49 ∷ 32 ∷ 50 ∷ 53
+    ∷ 53
     ∷ 10 ∷ 48 ∷ 32 ∷ 50 ∷ 32 ∷ 54 ∷ 53 ∷ 50 ∷ 56 ∷ 50 ∷ 32 ∷ 50 ∷ 53 ∷ 53 ∷ 10 ∷ []) ≡ refused 47 3
 edge = refl
 

@@ -116,8 +116,7 @@ pub walk_end : {sheet r : Bor (List ℕ)} {n at left : ℕ} (w : Walk sheet.now 
     → Part sheet c.at (c.end - c.at) r → LinePart sheet n r
 walk_end w is h p = record {
   part = rw (← fits w is h, ← (starts w is ∙ at_start w is h)) p;
-  line =
-      p.holds ∙ here w is h;
+  line = p.holds ∙ here w is h;
 }
 
 -- a refusal's line is a line of the sheet, or 0
@@ -158,9 +157,11 @@ rule_exists s f l =
 pub token_exists : (s : List ℕ) (f : ℕ) (l : ℕ) → token_sheet s ≡ refused f l
     → l ≤ length (pieces 10 s)
 token_exists s f l =
-    names_line (wide_sheet s) token_names (items_from (token_step false) []) (lines false) (pieces 10 s)
+    names_line (wide_sheet s) token_names (items_from (token_step false) []) (lines false)
+    (pieces 10 s)
     f l
-    (names_line (refused 11 1) wide_names (items_from (token_step true) []) (lines true) (pieces 10 s)
+    (names_line (refused 11 1) wide_names (items_from (token_step true) []) (lines true)
+    (pieces 10 s)
     f l (first_line 11 s f l))
   where
     lines : (wide : Bool) (ps : List (List ℕ)) (f : ℕ) (l : ℕ)

@@ -1,5 +1,5 @@
--- A sheet read line by line: what each line gives, and what the sheet gives. 01, "The two sheets"
--- and "Where each refusal is checked".
+-- A sheet read line by line: what each line gives, and what the sheet gives. docs/FORMAT.md,
+-- "Bytes, lines, fields, numbers" and "Refusals".
 use Rattle.std.specs.Prelude.{ℕ, ◌+◌, List, [], ◌∷◌, ◌++◌, Bool, not, cond, ◌&&◌, length}
 use Rattle.fields.specs.Pieces.{is_empty, same_bytes}
 use Rattle.lines.specs.declared.Turn.{Turn}

@@ -44,7 +44,7 @@ as_rule_step (RuleStep.Next r) = next r
 as_rule_step (RuleStep.Stop f) = stop (number_of f)
 as_rule_step RuleStep.End = end
 
--- what a line makes of the book: 02, ask 7, "the index stays true at each rule appended; a refused
+-- what a line makes of the book: "the index stays true at each rule appended; a refused
 -- rule line changes neither rules nor index"
 abbrev pub Adds : Book → RuleStep → Book → Type 0
 Adds b (RuleStep.Next r) x = Appended b r x

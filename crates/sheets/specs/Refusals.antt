@@ -1,4 +1,4 @@
--- The refusals and their numbers: 01, "Where each refusal is checked".
+-- The refusals and their numbers: docs/FORMAT.md, "Refusals".
 use Rattle.std.specs.Prelude.{◌≡◌, ℕ}
 use Rattle.sheets.specs.declared.Fault.{Fault}
 use Rattle.sheets.specs.Items.{Reading, refused}

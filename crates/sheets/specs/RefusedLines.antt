@@ -1,4 +1,4 @@
--- The refused line of a call with both sheets: 01, "Where each refusal is checked", the last
+-- The refused line of a call with both sheets: docs/FORMAT.md, "Calls and lent memory", the last
 -- paragraph.
 use Rattle.std.specs.Prelude.{◌≡◌, ℕ, zero, suc, ◌+◌, List, [], ◌∷◌, length, get_or}
 use Rattle.std.specs.Borrow.{Bor}

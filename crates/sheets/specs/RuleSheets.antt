@@ -1,4 +1,5 @@
--- What a rule sheet says: its rules, or the refusal with its line. 01, refusals 1 to 7, and 44.
+-- What a rule sheet says: its rules, or the refusal with its line. docs/FORMAT.md, refusals 1 to 7,
+-- and 44.
 use Rattle.std.specs.Prelude.{ℕ, List, [], ◌∷◌, Bool, false, cond, ◌||◌, eqb}
 use Rattle.grammar.specs.declared.Rule.{Rule}
 use Rattle.grammar.specs.Trees.{Rules}

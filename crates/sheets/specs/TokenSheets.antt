@@ -1,5 +1,5 @@
--- What a token sheet says: its tokens, or the refusal with its line. 01, refusals 11 to 15; request
--- 9, widths and refusal 47.
+-- What a token sheet says: its tokens, or the refusal with its line. docs/FORMAT.md, refusals 11 to
+-- 15, widths and refusal 47.
 use Rattle.std.specs.Prelude.{ℕ, List, [], ◌∷◌, Bool, true, false}
 use Rattle.grammar.specs.declared.Token.{Token}
 use Rattle.grammar.specs.Layout.{Word, last}
@@ -50,4 +50,5 @@ wide_sheet s = with_names (refused 11 1) wide_names (pieces 10 s) (items_from (t
 
 -- the old names, then line by line, with width 1; or the names with `width`
 abbrev pub token_sheet : List ℕ → Reading Word
-token_sheet s = with_names (wide_sheet s) token_names (pieces 10 s) (items_from (token_step false) [])
+token_sheet s =
+    with_names (wide_sheet s) token_names (pieces 10 s) (items_from (token_step false) [])

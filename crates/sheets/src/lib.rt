@@ -24,7 +24,7 @@ use grammar::{Column, Grammar, Line, Rule, Sentence, Token, Width, leaves_free, 
 use lengths::{Book, Index, append, no_book, no_lengths, no_rules};
 use lines::{Key, RuleLine, TokenLine, Turn};
 
-// The refusals, in the order of 01's table with 02's in their places; `number_of` in specs/ has
+// The refusals, in the order in which they are looked for; `number_of` in specs/ has
 // their numbers. Many are given by later crates.
 #[derive(Clone, Copy)]
 pub enum Fault {
@@ -316,7 +316,7 @@ fn rules_from(s: &[u8], start: usize) -> GrammarRead
     }
 }
 
-// The rule sheet: its rules, or the first refusal in 01's order with its line.
+// The rule sheet: its rules, or the first refusal in their order with its line.
 pub fn read_rules(s: &[u8]) -> GrammarRead
     ensures { RulesRead result (rule_sheet s.now) }
 {
@@ -444,7 +444,7 @@ fn tokens_from(s: &[u8], start: usize, wide: bool) -> SentenceRead
     }
 }
 
-// The token sheet: its tokens, or the first refusal in 01's order with its line.
+// The token sheet: its tokens, or the first refusal in their order with its line.
 pub fn read_tokens(s: &[u8]) -> SentenceRead
     ensures { TokensRead result (token_sheet s.now) }
 {

@@ -5,9 +5,11 @@ use Prim.Native.Nat.{ℕ, ◌+◌, ◌-◌, ◌*◌, ◌≤◌, ◌<◌}
 use native.Mathlib.Nat.{not-suc-le-zero}
 use native.Mathlib.Omega.{arith}
 use native.Mathlib.Decide.{ℕ_discrete}
-use lib.ListN.{length, get_or, drop, set, length-set, length-drop, take, replicate, length-replicate}
+use lib.ListN.{length, get_or, drop, set, length-set, length-drop, take, replicate}
+use lib.ListN.{length-replicate}
 use lib.ListN.{get_or-replicate}
-use lib.Seq.{get_or-set_same, get_or-set_other, get_or-drop, ext_get_or, length-take-le, get_or-take}
+use lib.Seq.{get_or-set_same, get_or-set_other, get_or-drop, ext_get_or, length-take-le}
+use lib.Seq.{get_or-take}
 use Rattle.grammar.specs.SpanSheet.{pairs, pair_at}
 use Rattle.spans.specs.Changes.{Past, Cleared, Kept, WrotePair}
 use Rattle.spans.proofs.Places.{pair_at_below}

@@ -82,7 +82,8 @@ sets_same a b h l e = digits_same 64 a b h l (λ i m. go i m (in_dec a i))
 -- ---- the span sheet
 
 module _ (g : Rules) (w : Word) (ws ws' : List ℕ) (small : (q : ℕ) → get_or ws q 0 < 2 ^ 64)
-    (small' : (q : ℕ) → get_or ws' q 0 < 2 ^ 64) (x : SpanSheet g w ws) (x' : SpanSheet g w ws') where
+    (small' : (q : ℕ) → get_or ws' q 0 < 2 ^ 64) (x : SpanSheet g w ws)
+    (x' : SpanSheet g w ws') where
   first_same : (p : ℕ) → p < pairs (length w) → get_or ws (2 * p) 0 ≡ get_or ws' (2 * p) 0
   first_same p h =
       let s = span_at (length w) p h in

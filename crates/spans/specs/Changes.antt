@@ -1,7 +1,7 @@
 -- How a call changes lent words.
 use Rattle.std.specs.Prelude.{◌≡◌, List, ℕ, ◌+◌, ◌*◌, ◌≤◌, ◌<◌, length, get_or}
 
--- the words from k on are as they were, and no word is added or lost: 01, "Words past the span
+-- the words from k on are as they were, and no word is added or lost: "Words past the span
 -- sheet never change"
 pub record Past (k : ℕ) (ws ws' : List ℕ) : Type 0 where
   pub long : length ws' ≡ length ws

@@ -1,5 +1,6 @@
 -- The front of a buffer grows by what is moved behind it.
-use Rattle.std.proofs.Common.{◌≡◌, ℕ, ◌+◌, ◌-◌, ◌≤◌, List, ◌++◌, length, take, drop, sym, ap, ◌∙◌, le_refl, length-take-le, drop_at}
+use Rattle.std.proofs.Common.{◌≡◌, ℕ, ◌+◌, ◌-◌, ◌≤◌, List, ◌++◌, length, take, drop, sym, ap, ◌∙◌}
+use Rattle.std.proofs.Common.{le_refl, length-take-le, drop_at}
 use Rattle.std.proofs.lemmas.Slice.{take-put_mid_below}
 use Rattle.std.proofs.lemmas.List.{take_rest}
 use borrow.Rule.Slice.PartMut.{put_mid, post_of}
@@ -16,7 +17,8 @@ take-put_mid a n xs ys within fits =
     let back : take n (drop a all) ≡ take n ys =
     ap (take n) (drop_at (take a xs) (ys ++ after) a (length-take-le a xs within))
     ∙ take-append-le n ys after fits in
-    sym (take-add a n all ∙ ap (λ l. l ++ take n (drop a all)) front ∙ ap (λ l. take a xs ++ l) back)
+    sym (take-add a n all ∙ ap (λ l. l ++ take n (drop a all)) front
+    ∙ ap (λ l. take a xs ++ l) back)
 
 -- the first n of what stands behind the first a
 pub take_next : (a n : ℕ) (xs : List ℕ)

@@ -82,7 +82,8 @@ pub data SweepTrying (P : Tries) (g : Rules) (k : ℕ) (words words' : List ℕ)
 pub data SweepReading (P : Tries) (given : Reading Rules) (k : ℕ) (words words' : List ℕ)
     (r : SweepReply) : Type 0 where
   -- a refused sheet
-  refusing : {f : Fault} {l : ℕ} → RefusedAs given f l → r ≡ sweep_reply_of (Answer.Refused f) l [] 0
+  refusing : {f : Fault} {l : ℕ} → RefusedAs given f l
+      → r ≡ sweep_reply_of (Answer.Refused f) l [] 0
       → words' ≡ words → SweepReading P given k words words' r
   reading : {g : Rules} → given ≡ accepted g → SweepTrying P g k words words' r
       → SweepReading P given k words words' r

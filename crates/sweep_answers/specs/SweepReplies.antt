@@ -8,7 +8,8 @@ use Rattle.sweep_answers.specs.declared.SweepReply.{SweepReply}
 use Rattle.sweep_answers.specs.Sweep.{no_sentence, SweepTrying}
 
 abbrev pub sweep_refusal : Fault → ℕ → SweepReply
-sweep_refusal f l = record { answer = Answer.Refused f; line = l; sentence = no_sentence; tried = 0 }
+sweep_refusal f l =
+    record { answer = Answer.Refused f; line = l; sentence = no_sentence; tried = 0 }
 
 abbrev pub SweepOn : (g : Rules) (k : ℕ) (words words' : List ℕ) (r : SweepReply) → Type 0
 SweepOn = SweepTrying TriedBy

@@ -105,7 +105,8 @@ fn search(
     requires k_in_bounds { 2 * pairs k ≤ length words.old }
     requires tabled { Tabled (rules_of g) set table.now }
     requires k_in_bounds_2 { (kept_for k ≤ length cuts.old) × Prepared (rules_of g) cuts.old }
-    ensures searched { Searched (rules_of g) set k result.length (cells result.candidate 0 result.length) }
+    ensures searched { Searched (rules_of g) set k result.length
+        (cells result.candidate 0 result.length) }
     ensures past { Past (2 * pairs k) words.old words.new }
 {
     let mut n: usize = 1;
@@ -151,7 +152,8 @@ fn find_among(g: Grammar, set: u64, low: u8, lengths: u64, k: usize, words: &mut
     requires formed { Formed g }
     requires admits { Admits (rules_of g) lengths }
     requires k_in_bounds { 2 * pairs k ≤ length words.old }
-    ensures searched { Searched (rules_of g) set k result.length (cells result.candidate 0 result.length) }
+    ensures searched { Searched (rules_of g) set k result.length
+        (cells result.candidate 0 result.length) }
     ensures past { Past (2 * pairs k) words.old words.new }
 {
     let mut table: [u64; TABLE] = [0; TABLE];

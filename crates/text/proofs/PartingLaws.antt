@@ -54,7 +54,8 @@ step s begins i h e k =
     record {
       low = omega arith;
       same =
-          k.same ∙ ap (λ (l : List ℕ). onto_all (take i s) (parts_from begins l)) (drop-cons s i 0 h)
+          k.same ∙ ap (λ (l : List ℕ). onto_all (take i s) (parts_from begins l))
+          (drop-cons s i 0 h)
           ∙ ap (λ (b : Bool). onto_all (take i s)
           (cond b (some (record { before = []; behind = drop (suc i) s }))
           (onto_before (get_or s i 0) (parts_from (eqb (get_or s i 0) 10) (drop (suc i) s))))) e

@@ -1,4 +1,4 @@
--- The programs' input: 01, "The programs".
+-- The programs' input: docs/FORMAT.md, "The programs".
 use Rattle.std.specs.Prelude.{Bool, true, cond, ◌&&◌, List, [], ◌∷◌, ℕ, eqb}
 use Rattle.std.proofs.Math.Option.{Option, none, some}
 

@@ -1,4 +1,4 @@
--- The programs' output: 01, "The programs".
+-- The programs' output: docs/FORMAT.md, "The programs".
 use Rattle.std.specs.Prelude.{List, [], ◌∷◌, ◌++◌, ℕ}
 use Rattle.grammar.specs.Layout.{Word}
 use Rattle.printing.specs.Printing.{decimal, last_field, row_lines, token_lines}

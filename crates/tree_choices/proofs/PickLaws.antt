@@ -73,8 +73,7 @@ other_of_next {g} {A} {w} {p} {k} {q} {l} f x =
     record {
       choice = x.choice;
       other = λ e. x.late (inr (e.0, omega (arith, e.1)));
-      least =
-          λ i j c b. at i j c b (tri i j p (k + 1));
+      least = λ i j c b. at i j c b (tri i j p (k + 1));
     }
   where
     at : (i j : ℕ) → Choice g A w i j → ChoiceBefore i j q l
@@ -117,8 +116,7 @@ chosen g {A} {w} {s} {p} {k} m {st} c h f =
       split = k;
       rule = c.takes.rule;
       stands = c.takes.stands;
-      step =
-          e ∙ ap (λ (x : Bool). step_of_clause c.takes.rule.clause k x) (sym j);
+      step = e ∙ ap (λ (x : Bool). step_of_clause c.takes.rule.clause k x) (sym j);
       picks = rw j h;
     }
   where
@@ -129,7 +127,8 @@ chosen g {A} {w} {s} {p} {k} m {st} c h f =
     same (Clause.Binary B C n) = refl
 
 -- a nonterminal that has a choice is below 64
-pub choice_small : {g : Grammar} → Formed g → {A : ℕ} {w : Word} → HasChoice (rules_of g) A w → A < 64
+pub choice_small : {g : Grammar} → Formed g → {A : ℕ} {w : Word} → HasChoice (rules_of g) A w
+    → A < 64
 choice_small {g} f h =
     let x = choice_can h.2 in
     omega (

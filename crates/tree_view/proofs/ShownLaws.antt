@@ -1,5 +1,5 @@
 -- Laws of the rows shown: trees that differ only beneath closed rows are shown alike; with all
--- open, the rows are 01's.
+-- open, the rows are those of the tree.
 use mathlib.Core.Path.{◌≡◌, refl, sym, ap, ◌∙◌}
 use mathlib.Core.Bool.{Bool, true, false, cond, ◌&&◌}
 use mathlib.Core.List.{[], ◌∷◌, ◌++◌}
@@ -53,7 +53,7 @@ module _ (sees : View) where
   shown_alike i (same_binary {A = A} {s = s} {t = t} {u = u} {v = v} a b) =
       rw (beneath_word a, beneath_word b, shown_alike i a, shown_alike (i + length (word u)) b)
 
--- 3. with every nonterminal open the rows are 01's
+-- 3. with every nonterminal open the rows are those of the tree
 
 -- every node of the tree may be seen
 abbrev pub Seen : View → Tree → Type 0

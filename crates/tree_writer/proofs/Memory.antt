@@ -123,8 +123,7 @@ all_kids_sit w (binary A u v) i ps s a =
       (
         record {
           within = omega (arith, s.within);
-          spelled =
-              x.1 ∙ ap (take (length (word v))) (drop-drop (length (word u)) i w);
+          spelled = x.1 ∙ ap (take (length (word v))) (drop-drop (length (word u)) i w);
         },
         a,
       ),
@@ -220,10 +219,12 @@ pub record Popped (sees : View) (g : Rules) (w : Word) (u : Tree) (s : Bool) (ou
   pub within : 4 * cap ≤ length out
 
 four : (l : List ℕ) (at : ℕ) (a b c d : ℕ) (r : List ℕ) → drop at l ≡ a ∷ b ∷ c ∷ d ∷ r
-    → (get_or l at 0 ≡ a) × (get_or l (at + 1) 0 ≡ b) × (get_or l (at + 2) 0 ≡ c) × (drop (at + 4) l ≡ r)
+    → (get_or l at 0 ≡ a) × (get_or l (at + 1) 0 ≡ b) × (get_or l (at + 2) 0 ≡ c)
+    × (drop (at + 4) l ≡ r)
 four l at a b c d r e =
     let z : at ≡ at + 0 = omega arith in (
-      ap (λ (k : ℕ). get_or l k 0) z ∙ sym (get_or-drop at l 0 0) ∙ ap (λ (x : List ℕ). get_or x 0 0) e,
+      ap (λ (k : ℕ). get_or l k 0) z ∙ sym (get_or-drop at l 0 0)
+          ∙ ap (λ (x : List ℕ). get_or x 0 0) e,
       sym (get_or-drop at l 1 0) ∙ ap (λ (x : List ℕ). get_or x 1 0) e,
       sym (get_or-drop at l 2 0) ∙ ap (λ (x : List ℕ). get_or x 2 0) e,
       sym (drop-drop 4 at l) ∙ ap (drop 4) e,
@@ -299,7 +300,8 @@ module _ {sees : View} {g : Rules} {w : Word} {u : Tree} {s : Bool} {out : List 
 
       same_kind : (t : Tree) → root t ∷ (shown_shape sees m t).kind ∷ start_of at (length (word t))
           ∷ length (word t) ∷ [] ≡ row sees t at
-      same_kind t = ap (λ (k : ℕ). root t ∷ k ∷ start_of at (length (word t)) ∷ length (word t) ∷ [])
+      same_kind t =
+          ap (λ (k : ℕ). root t ∷ k ∷ start_of at (length (word t)) ∷ length (word t) ∷ [])
           (kind_same (sees (root t)) t)
 
   pub turn : Aim g m (shown_kids sees x.tree at ++ x.others) → n + kids_of_of st.kind ≤ top
@@ -395,8 +397,7 @@ module _ {sees : View} {g : Rules} {w : Word} {u : Tree} {s : Bool} {out : List 
       let j : n ≡ shown_count sees u = omega arith in
       record {
         enough = λ _. (rw (k, r, ← e) f, j);
-        short =
-            λ h'. absurd (omega (arith, x.count, x.within, x.room));
+        short = λ h'. absurd (omega (arith, x.count, x.within, x.room));
       }
 
 -- nothing is, for want of room

@@ -22,7 +22,8 @@ use Rattle.tree_writer.specs.RowsWritten.{RowsWritten}
 use Rattle.rows.specs.Bytes.{splice}
 use Rattle.rows.specs.Steps.{kids_of_of, closed_step, entries_of, Branched}
 use Rattle.tree_choices.specs.Picks.{HasChoice, Looked, seen, closed}
-use Rattle.tree_choices.proofs.Pending.{node_shape, shown_kids, shown_shape, Aim, aim_step, aim_pass}
+use Rattle.tree_choices.proofs.Pending.{node_shape, shown_kids, shown_shape, Aim, aim_step}
+use Rattle.tree_choices.proofs.Pending.{aim_pass}
 use Rattle.tree_choices.proofs.Pending.{aim_choice}
 use Rattle.tree_writer.proofs.Memory.{goal_unique, State, state_start, Popped, pop, turn}
 use Rattle.tree_writer.proofs.Memory.{over, laid_full, laid_short}
@@ -154,7 +155,8 @@ module _ {sees : View} {g : Grammar} {s : Sentence} {ws hs : List ℕ} {seeking 
     -- no room for the children
     pub running_over : cap < shown_count sees x.tree → (l m : List ℕ) → long ≡ length l
         → cap ≡ row_room l
-        → m ≡ filled (seen_by sees) out none → (u : Tree) → Goal (rules_of g) 0 (spelled s) seeking u
+        → m ≡ filled (seen_by sees) out none → (u : Tree)
+        → Goal (rules_of g) 0 (spelled s) seeking u
         → RowsWritten sees u l m 0
     running_over h l m e f z u a =
         let j = goal_unique r.formed.distinct 0 (spelled s) seeking u x.tree a x.goal in

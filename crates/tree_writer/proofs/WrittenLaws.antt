@@ -26,8 +26,7 @@ module _ (sees : View) (t u : Option Tree) {l₁ l₂ m₁ m₂ : List ℕ} wher
       (record { fits = true; first = r₁; second = r₂ })
   written_fits h k e f a b = record {
     fits = λ _ _. (e, f, cc);
-    short =
-        λ z. ⊎_elim (λ x. absurd (omega arith)) (λ x. absurd (omega arith)) z;
+    short = λ z. ⊎_elim (λ x. absurd (omega arith)) (λ x. absurd (omega arith)) z;
   }
 
   pub written_short : (row_room l₁ < count_of (seen_by sees) t)
@@ -78,7 +77,8 @@ module _ (sees : View) (t : Tree) {l₁ l₂ m₁ m₂ : List ℕ} {r₁ : ℕ}
   module _ {g : Rules} {A : ℕ} {w : Word} {r₂ : ℕ}
       (y : (v : Tree) → SecondTree g A w v → RowsWritten sees v l₂ m₂ r₂) where
     pub second_short : {m₁' : List ℕ} {two : Bool} {u : Option Tree} → two ≡ true
-        → SecondIf g A w two u → r₂ ≡ 0 → length m₁ ≡ length l₁ → m₁' ≡ filled (seen_by sees) m₁ none
+        → SecondIf g A w two u → r₂ ≡ 0 → length m₁ ≡ length l₁
+        → m₁' ≡ filled (seen_by sees) m₁ none
         → Written (seen_by sees) (some t) u l₁ l₂ m₁' m₂
         (record { fits = false; first = 0; second = 0 })
     second_short d (second {u = v} q) z n e =

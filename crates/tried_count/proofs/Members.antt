@@ -80,6 +80,7 @@ pub members_none : (s : ℕ) → 0 ≡ members_below_of s 0
 unfolding members_below_of
 members_none s = refl
 
-pub members_more : (s i n : ℕ) → n ≡ members_below_of s i → n + s / 2 ^ i % 2 ≡ members_below_of s (i + 1)
+pub members_more : (s i n : ℕ) → n ≡ members_below_of s i
+    → n + s / 2 ^ i % 2 ≡ members_below_of s (i + 1)
 unfolding members_below_of
 members_more s i n e = rw (add-one i) (ap (λ (x : ℕ). x + s / 2 ^ i % 2) e)

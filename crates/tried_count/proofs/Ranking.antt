@@ -22,7 +22,8 @@ use Rattle.tried_count.proofs.Columns.{ways_small, lesser_small, share_small}
 
 -- a cell's part of the rank, from a row that has the ways to go on
 cell_same : (t n r m p s : ℕ) (row : Row) (d : Cell) → RowOf t n r row → d.column ≤ n
-    → cell_rank (members_below_of s) (at row) n m p d ≡ cell_rank (members_below_of s) (onward t n r) n m p d
+    → cell_rank (members_below_of s) (at row) n m p d ≡ cell_rank (members_below_of s)
+    (onward t n r) n m p d
 cell_same t n r m p s row d w h =
     ap₂ ◌+◌ (ap (λ (x : ℕ). members_below_of s d.terminal * x)
     (ways_same (at row) (onward t n r) n m p w.each))
@@ -58,7 +59,8 @@ ranking_none s t n c k = record {
 }
 
 -- the cell at i fits
-pub ranking_fits : (s t n : ℕ) (c : Candidate) (i m p total : ℕ) (d : Cell) → i < n → d ≡ cell_at c i
+pub ranking_fits : (s t n : ℕ) (c : Candidate) (i m p total : ℕ) (d : Cell) → i < n
+    → d ≡ cell_at c i
     → Ranking s t n c i m p total → Fits (Among s) n m p d
 ranking_fits s t n c i m p total d h e w =
     let f : Fit (Among s) n m p (cell_at c i ∷ cells c (i + 1) (n - (i + 1))) =
@@ -90,7 +92,8 @@ ranking_more s t n c i m p total x row d n7 h e w v q = record {
     left : length (cells c (i + 1) (n - (i + 1))) ≡ n - 1 - i
     left = let z : n - (i + 1) ≡ n - 1 - i = omega arith in cells_size c (i + 1) (n - (i + 1)) ∙ z
 
-    here : x ≡ cell_rank (members_below_of s) (onward t n (length (cells c (i + 1) (n - (i + 1))))) n m p
+    here : x ≡ cell_rank (members_below_of s) (onward t n (length (cells c (i + 1) (n - (i + 1)))))
+        n m p
         d
     here = v ∙ cell_same t n (n - 1 - i) m p s row d w fit.0.ranged.high
         ∙ ap (λ (r : ℕ). cell_rank (members_below_of s) (onward t n r) n m p d) (sym left)
@@ -99,7 +102,8 @@ ranking_more s t n c i m p total x row d n7 h e w v q = record {
         + rank_from (members_below_of s) t n 2 d.column (cells c (i + 1) (n - (i + 1)))
     turn =
         ap (rank_from (members_below_of s) t n m p) (cells_turn n i c h)
-        ∙ ap (λ (y : Cell). rank_from (members_below_of s) t n m p (y ∷ cells c (i + 1) (n - (i + 1))))
+        ∙ ap (λ (y : Cell). rank_from (members_below_of s) t n m p
+        (y ∷ cells c (i + 1) (n - (i + 1))))
         (sym e)
         ∙ ap (λ (y : ℕ). y + rank_from (members_below_of s) t n 2 d.column
         (cells c (i + 1) (n - (i + 1)))) (sym here)

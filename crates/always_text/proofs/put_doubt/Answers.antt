@@ -11,4 +11,8 @@ returns c =
     let b = c.put_small-b.ensures in
     let d = c.put_small-c.ensures in
     let e = c.put_why.ensures in
-    let r = wrote_then a.wrote (wrote_then b.wrote (wrote_then d.wrote e.wrote)) in record { wrote = r; upper_bound = omega (arith, a.upper_bound, b.upper_bound, d.upper_bound, e.upper_bound) }
+    let r = wrote_then a.wrote (wrote_then b.wrote (wrote_then d.wrote e.wrote)) in
+    record {
+      wrote = r;
+      upper_bound = omega (arith, a.upper_bound, b.upper_bound, d.upper_bound, e.upper_bound);
+    }

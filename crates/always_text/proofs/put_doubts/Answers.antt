@@ -1,5 +1,4 @@
 use mathlib.Core.Path.{◌≡◌}
-use Prim.Native.Nat.{◌-◌}
 use native.Mathlib.Omega.{arith}
 use Rattle.printing.proofs.Writing.{wrote_none, wrote_then}
 use Rattle.always_text.proofs.DoubtLines.{lines_more}

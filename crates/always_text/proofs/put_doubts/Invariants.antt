@@ -7,7 +7,8 @@ use Rattle.always_text.proofs.put_doubts.Given as goal
 
 abbrev pub invariant-loop-i : goal.invariant-loop-i
 invariant-loop-i l =
-    (l.i ≤ l.count) × (l.next ≤ l.at + 18 * l.i) × Wrote l.initial.out l.out l.at (doubt_lines (take (4 * l.i) l.list)) l.next
+    (l.i ≤ l.count) × (l.next ≤ l.at + 18 * l.i) × Wrote l.initial.out l.out l.at
+    (doubt_lines (take (4 * l.i) l.list)) l.next
 
 abbrev pub decreases-loop-i : goal.decreases-loop-i
 decreases-loop-i l = l.count - l.i

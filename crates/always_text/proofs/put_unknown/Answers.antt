@@ -29,4 +29,8 @@ returns c =
     let z = c.put_byte-c.ensures in
     let v = c.put_number-d.ensures in
     let w = c.put_byte.ensures in
-    let d = decimal_length 20 c.args.line (omega arith) (search rules) in record { wrote = wrote_then x (wrote_then y (wrote_then z (wrote_then v w))); upper_bound = omega (arith, x.next, y.next, z.next, v.next, w.next, d) }
+    let d = decimal_length 20 c.args.line (omega arith) (search rules) in
+    record {
+      wrote = wrote_then x (wrote_then y (wrote_then z (wrote_then v w)));
+      upper_bound = omega (arith, x.next, y.next, z.next, v.next, w.next, d);
+    }

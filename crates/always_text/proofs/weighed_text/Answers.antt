@@ -12,7 +12,18 @@ use Rattle.always_text.proofs.weighed_text.Goals as goal
 pub put_listed-requires : goal.put_listed-requires
 put_listed-requires c =
     let f = doubts_fit (by_told (doubts_told c.reply-r.ensures c.list_doubts-l.ensures)) in
-    let l = length-replicate {A = ℕ} 57600 0 in record { count_in_bounds = omega (arith, f, l, c.list_doubts-l.auto.list); count_in_bounds_2 = omega (arith, f, l, c.put_told-n.ensures.upper_bound, c.put_told-n.ensures.wrote.long, c.requires.in_bounds) }
+    let l = length-replicate {A = ℕ} 57600 0 in
+    record {
+      count_in_bounds = omega (arith, f, l, c.list_doubts-l.auto.list);
+      count_in_bounds_2 = omega (
+        arith,
+        f,
+        l,
+        c.put_told-n.ensures.upper_bound,
+        c.put_told-n.ensures.wrote.long,
+        c.requires.in_bounds,
+      );
+    }
 
 pub returns : goal.returns
 returns c =

@@ -14,7 +14,11 @@ returns-then-words-size c =
 pub write_trees-c-requires : goal.write_trees-c-requires
 write_trees-c-requires c =
     let v = rw c.in-One.is at c.judge-v.ensures in record {
-      charted = record { formed = c.requires.formed; positioned = c.requires.positioned; sheet = v.sheet };
+      charted = record {
+        formed = c.requires.formed;
+        positioned = c.requires.positioned;
+        sheet = v.sheet;
+      };
       wanted = wants_first _ _
           v.verdict;
     }
@@ -22,7 +26,11 @@ write_trees-c-requires c =
 pub write_trees-c-requires-in-Two : goal.write_trees-c-requires-in-Two
 write_trees-c-requires-in-Two c =
     let v = rw c.in-Two.is at c.judge-v.ensures in record {
-      charted = record { formed = c.requires.formed; positioned = c.requires.positioned; sheet = v.sheet };
+      charted = record {
+        formed = c.requires.formed;
+        positioned = c.requires.positioned;
+        sheet = v.sheet;
+      };
       wanted = wants_second _ _
           c.requires.formed.distinct v.verdict;
     }

@@ -6,7 +6,8 @@ use Rattle.arrangement_numbers.proofs.ShareLaws.{remainder_small}
 use Rattle.arrangement_numbers.proofs.begins_at.Goals as goal
 
 pub overflow_mul-result : goal.overflow_mul-result
-overflow_mul-result c = omega (arith, product_small c.args.m c.args.p c.args.i c.requires.0 c.requires.2)
+overflow_mul-result c =
+    omega (arith, product_small c.args.m c.args.p c.args.i c.requires.0 c.requires.2)
 
 pub overflow_add-result : goal.overflow_add-result
 overflow_add-result c =
@@ -23,7 +24,8 @@ returns-then-i-r c = let a = c.args in
     omega (arith, begins_low a.m a.p a.i (omega (arith, c.if-i-r.true)))
 
 pub overflow_mul-result-2 : goal.overflow_mul-result-2
-overflow_mul-result-2 c = omega (arith, product_small c.args.m c.args.p c.args.i c.requires.0 c.requires.2)
+overflow_mul-result-2 c =
+    omega (arith, product_small c.args.m c.args.p c.args.i c.requires.0 c.requires.2)
 
 pub overflow_add-result-2 : goal.overflow_add-result-2
 overflow_add-result-2 c =

@@ -8,7 +8,8 @@ use Rattle.arrangement_numbers.proofs.front_number.Reads
 use Rattle.arrangement_numbers.proofs.front_number.Tie
 use Rattle.arrangement_numbers.proofs.front_number.Goals as goal
 
-below : (c : Lts.Start Tie.the-claims Reads.Pre Reads.Post goal.the-invariant-loop-i goal.the-decreases-loop-i Tie.handed_clauses) → c.args.set < 2 ^ 64
+below : (c : Lts.Start Tie.the-claims Reads.Pre Reads.Post goal.the-invariant-loop-i
+    goal.the-decreases-loop-i Tie.handed_clauses) → c.args.set < 2 ^ 64
 below c = omega (arith, c.well_formed)
 
 pub loop-i-init : goal.loop-i-init
@@ -32,7 +33,8 @@ pub overflow_mul-v : goal.overflow_mul-v
 overflow_mul-v c =
     omega (
       arith,
-      front_fits c.args.set c.args.n (below c.before.before.before.before.before) c.requires.few c.args.c
+      front_fits c.args.set c.args.n (below c.before.before.before.before.before) c.requires.few
+          c.args.c
           c.requires.candidate c.loop-i.i _ _ _ _
           (omega (arith, c.requires.b_le_n, c.loop-i-test.true))
           c.loop-i.invariant.1 c.choices_at.ensures c.cell-d.ensures
@@ -43,7 +45,8 @@ pub overflow_add-v : goal.overflow_add-v
 overflow_add-v c =
     omega (
       arith,
-      front_fits c.args.set c.args.n (below c.before.before.before.before.before) c.requires.few c.args.c
+      front_fits c.args.set c.args.n (below c.before.before.before.before.before) c.requires.few
+          c.args.c
           c.requires.candidate c.loop-i.i _ _ _ _
           (omega (arith, c.requires.b_le_n, c.loop-i-test.true))
           c.loop-i.invariant.1 c.choices_at.ensures c.cell-d.ensures
@@ -53,7 +56,8 @@ overflow_add-v c =
 pub loop-i-preserved : goal.loop-i-preserved
 loop-i-preserved c = (
   omega (arith, c.loop-i-test.true),
-  front_turn c.args.set c.args.n (below c.before.before.before.before.before) c.requires.few c.args.c c.requires.candidate
+  front_turn c.args.set c.args.n (below c.before.before.before.before.before) c.requires.few
+      c.args.c c.requires.candidate
       c.loop-i.i _ _ _ _ (omega (
         arith,
         c.requires.b_le_n,

@@ -8,7 +8,8 @@ use Rattle.arrangement_numbers.proofs.room_past.Reads
 use Rattle.arrangement_numbers.proofs.room_past.Tie
 use Rattle.arrangement_numbers.proofs.room_past.Goals as goal
 
-below : (c : Lts.Start Tie.the-claims Reads.Pre Reads.Post goal.the-invariant-loop-i goal.the-decreases-loop-i Tie.handed_clauses) → c.args.set < 2 ^ 64
+below : (c : Lts.Start Tie.the-claims Reads.Pre Reads.Post goal.the-invariant-loop-i
+    goal.the-decreases-loop-i Tie.handed_clauses) → c.args.set < 2 ^ 64
 below c = omega (arith, c.well_formed)
 
 pub loop-i-init : goal.loop-i-init

@@ -21,7 +21,11 @@ returns-then-words-size c =
     )) refl c.refuse.ensures refl
 
 pub choose-found-requires : goal.choose-found-requires
-choose-found-requires c = record { formed = c.requires.formed; spread = c.requires.spread; count_in_bounds = omega (arith, c.if-words-size.false, c.size.ensures) }
+choose-found-requires c = record {
+  formed = c.requires.formed;
+  spread = c.requires.spread;
+  count_in_bounds = omega (arith, c.if-words-size.false, c.size.ensures);
+}
 
 pub returns : goal.returns
 returns c =

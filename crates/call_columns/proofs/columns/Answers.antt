@@ -7,7 +7,8 @@ use Rattle.call_columns.proofs.columns.Goals as goal
 
 pub answered-requires : goal.answered-requires
 answered-requires c = let q = c.read_ranges-b.ensures in
-    let e = c.in-Accepted-p.is in record { formed = c.read_rules-a.ensures.formed c.in-Accepted.is; spread = q.spread e }
+    let e = c.in-Accepted-p.is in
+    record { formed = c.read_rules-a.ensures.formed c.in-Accepted.is; spread = q.spread e }
 
 pub returns-in-Refused : goal.returns-in-Refused
 returns-in-Refused c = bad_rules (rules_not c.read_rules-a.ensures

@@ -12,7 +12,12 @@ returns-then-words-size c =
 
 pub list_two-requires : goal.list_two-requires
 list_two-requires c =
-    let v = rw c.in-Two.is at c.judge-v.ensures in record { formed = c.requires.formed; positioned = c.requires.positioned; span_sheet = (v.sheet, v.verdict) }
+    let v = rw c.in-Two.is at c.judge-v.ensures in
+    record {
+      formed = c.requires.formed;
+      positioned = c.requires.positioned;
+      span_sheet = (v.sheet, v.verdict);
+    }
 
 pub returns-in-None : goal.returns-in-None
 returns-in-None c =
@@ -23,7 +28,8 @@ returns-in-None c =
 pub returns-in-One : goal.returns-in-One
 returns-in-One c =
     let v = rw c.in-One.is at c.judge-v.ensures in
-    let x = given_none c.requires.formed.distinct (one_not_two v.verdict) c.list_none-in-One.ensures in
+    let x = given_none c.requires.formed.distinct (one_not_two v.verdict)
+    c.list_none-in-One.ensures in
     placed Answer.One (filled_by c.requires.positioned.whole v) v.verdict x c.reply-in-One.ensures
 
 pub returns-in-Two : goal.returns-in-Two

@@ -6,7 +6,10 @@ use Rattle.call_places.proofs.places.Goals as goal
 
 pub listed-requires : goal.listed-requires
 listed-requires c =
-    record { formed = c.read_rules-a.ensures.formed c.in-Accepted.is; positioned = c.read_tokens-b.ensures.positioned c.in-Accepted-p.is }
+    record {
+      formed = c.read_rules-a.ensures.formed c.in-Accepted.is;
+      positioned = c.read_tokens-b.ensures.positioned c.in-Accepted-p.is;
+    }
 
 pub returns-in-Refused : goal.returns-in-Refused
 returns-in-Refused c =

@@ -12,11 +12,13 @@ returns-then-rule-eq0 c = let z = c.args in
     c.if-rule-eq0.true)
 
 pub returns-then-g-rule : goal.returns-then-g-rule
-returns-then-g-rule c = rw c.refuse-then-g-rule.ensures (barred_past c.requires.formed c.args.rules.now c.requires.rules_value _ _
+returns-then-g-rule c = rw c.refuse-then-g-rule.ensures
+    (barred_past c.requires.formed c.args.rules.now c.requires.rules_value _ _
     c.args.lay.now _ c.if-g-rule.true)
 
 pub has-requires : goal.has-requires
-has-requires c = read_small c.requires.formed c.args.rules.now c.requires.rules_value c.args.changes c.args.rule
+has-requires c =
+    read_small c.requires.formed c.args.rules.now c.requires.rules_value c.args.changes c.args.rule
     c.args.lay.now c.args.lay.now (omega (arith, c.if-rule-eq0.false))
     (omega (arith, c.if-g-rule.false)) _
 
@@ -45,7 +47,8 @@ returns-then-has c = allowed
     c.marked.ensures
 
 pub returns : goal.returns
-returns c = rw c.refuse-2.ensures (read_barred c.requires.formed c.args.rules.now c.requires.rules_value
+returns c =
+    rw c.refuse-2.ensures (read_barred c.requires.formed c.args.rules.now c.requires.rules_value
     c.args.changes c.args.rule c.args.lay.now _
     (omega (arith, c.if-rule-eq0.false))
     (omega (arith, c.if-g-rule.false)) _

@@ -35,7 +35,8 @@ pub returns-in-Refused-q : goal.returns-in-Refused-q
 returns-in-Refused-q c =
     let z = c.args in
     barring (both_accepted z.tokens.now
-    c.read_rules-a.ensures c.in-Accepted.is c.read_tokens-b.ensures c.in-Accepted-p.is) (rights_not (rights_sheet z.rights.now) z.user _
+    c.read_rules-a.ensures c.in-Accepted.is c.read_tokens-b.ensures c.in-Accepted-p.is)
+    (rights_not (rights_sheet z.rights.now) z.user _
     c.read_rights-c.ensures
     c.in-Refused-q.is) c.refused_trees-in-Refused-q.ensures refl
     refl refl

@@ -13,11 +13,29 @@ returns-then-words-size c =
 
 pub count_rows-c-requires : goal.count_rows-c-requires
 count_rows-c-requires c =
-    let v = rw c.in-One.is at c.judge-v.ensures in record { charted = record { formed = c.requires.formed; positioned = c.requires.positioned; sheet = v.sheet }; has_firsts = has_firsts; wanted = wants_first _ _ v.verdict }
+    let v = rw c.in-One.is at c.judge-v.ensures in
+    record {
+      charted = record {
+        formed = c.requires.formed;
+        positioned = c.requires.positioned;
+        sheet = v.sheet;
+      };
+      has_firsts = has_firsts;
+      wanted = wants_first _ _ v.verdict;
+    }
 
 pub count_rows-c-requires-in-Two : goal.count_rows-c-requires-in-Two
 count_rows-c-requires-in-Two c =
-    let v = rw c.in-Two.is at c.judge-v.ensures in record { charted = record { formed = c.requires.formed; positioned = c.requires.positioned; sheet = v.sheet }; has_firsts = has_firsts; wanted = wants_second _ _ c.requires.formed.distinct v.verdict }
+    let v = rw c.in-Two.is at c.judge-v.ensures in
+    record {
+      charted = record {
+        formed = c.requires.formed;
+        positioned = c.requires.positioned;
+        sheet = v.sheet;
+      };
+      has_firsts = has_firsts;
+      wanted = wants_second _ _ c.requires.formed.distinct v.verdict;
+    }
 
 pub returns-in-None : goal.returns-in-None
 returns-in-None c =

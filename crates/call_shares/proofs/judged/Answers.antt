@@ -16,7 +16,8 @@ pub returns-then-not-within_limit : goal.returns-then-not-within_limit
 returns-then-not-within_limit c =
     let e = c.terminal_count-t.ensures.terminals _ c.terminals.ensures in
     let l = c.within_limit.ensures.isnt c.if-not-within_limit.true in
-    many (omega arith) (omega arith) (rw e at (not_le _ _ l)) refl c.refused_share-then-not-within_limit.ensures refl
+    many (omega arith) (omega arith) (rw e at (not_le _ _ l)) refl
+    c.refused_share-then-not-within_limit.ensures refl
 
 pub divided-requires : goal.divided-requires
 divided-requires c =

@@ -40,7 +40,12 @@ begins_at-end-requires c =
 pub share_rules-found-requires : goal.share_rules-found-requires
 share_rules-found-requires c =
     let t = c.requires.share_taken in
-    record { le_n = (t.size.low, t.size.high); formed = c.requires.formed; n_bound = t.size.few; n_in_bounds = t.enough }
+    record {
+      le_n = (t.size.low, t.size.high);
+      formed = c.requires.formed;
+      n_bound = t.size.few;
+      n_in_bounds = t.enough;
+    }
 
 pub returns-then-sentence-eq0 : goal.returns-then-sentence-eq0
 returns-then-sentence-eq0 c =

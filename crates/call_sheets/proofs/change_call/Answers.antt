@@ -36,7 +36,8 @@ stage1 s a u d p = number_good Call.Not (change_second (length s)) s a u d p
 
 -- after both
 record Both (s : List ℕ) (a : Cursor) (u r : ℕ) (e : Cursor) : Type 0 where
-  pub says : change_call_of (length s) (fields_left s a) ≡ change_end (length s) u r (fields_left s e)
+  pub says : change_call_of (length s) (fields_left s a)
+      ≡ change_end (length s) u r (fields_left s e)
   pub ends : e.end ≡ a.end
 
 stage2 : (s : List ℕ) (a : Cursor) (u : ℕ) (d : Cursor) (r : ℕ) (e : Cursor)
@@ -80,7 +81,8 @@ not_left : (s : List ℕ) (a : Cursor) (u r : ℕ) (e : Cursor) → a.end + 1 �
     → Call.Not ≡ change_call_of (length s) (fields_left s a)
 not_left s a u r e h b k o =
     let bytes = bytes_left s e in
-    sym (b.says ∙ left s a u r e h b k ∙ end_not (length s) u r (pieces 32 bytes) (left_bad bytes o))
+    sym (b.says ∙ left s a u r e h b k ∙ end_not (length s) u r (pieces 32 bytes)
+    (left_bad bytes o))
 
 pub returns-in_default : goal.returns-in_default
 returns-in_default c =

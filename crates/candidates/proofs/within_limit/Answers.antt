@@ -17,7 +17,8 @@ pub loop-i-init : goal.loop-i-init
 loop-i-init c = (omega arith, c.requires.1, partly_one _ _)
 
 pub returns-then-m-gt-LIMIT : goal.returns-then-m-gt-LIMIT
-returns-then-m-gt-LIMIT c = limit_over _ _ _ _ _ c.loop-i.invariant.0 c.loop-i.invariant.1 c.loop-i.invariant.2 c.if-m-gt-LIMIT.true
+returns-then-m-gt-LIMIT c = limit_over _ _ _ _ _ c.loop-i.invariant.0 c.loop-i.invariant.1
+    c.loop-i.invariant.2 c.if-m-gt-LIMIT.true
 
 pub overflow_mul-m-in-loop-i : goal.overflow_mul-m-in-loop-i
 overflow_mul-m-in-loop-i c = omega (
@@ -28,10 +29,12 @@ overflow_mul-m-in-loop-i c = omega (
 )
 
 pub loop-i-preserved : goal.loop-i-preserved
-loop-i-preserved c = (omega arith, search rules, partly_more _ _ _ _ c.loop-i.invariant.0 c.loop-i.invariant.2)
+loop-i-preserved c =
+    (omega arith, search rules, partly_more _ _ _ _ c.loop-i.invariant.0 c.loop-i.invariant.2)
 
 pub returns : goal.returns
 returns c =
     let e : c.loop-i.m ≡ arrangements c.args.t c.args.k =
-    limit_end _ _ _ _ (omega (arith, c.loop-i.invariant.1, c.loop-i-test.false)) c.loop-i.invariant.2 in
+    limit_end _ _ _ _ (omega (arith, c.loop-i.invariant.1, c.loop-i-test.false))
+    c.loop-i.invariant.2 in
     record { is = λ q. omega (arith, leb-true); isnt = λ q h. omega (arith, leb-false) }

@@ -8,7 +8,8 @@ pub loop-l-init : goal.loop-l-init
 loop-l-init c = upto_none (rules_of c.args.g) c.args.e c.args.table.now c.requires.table_len
 
 pub next_level-requires : goal.next_level-requires
-next_level-requires c = record { l_bound = c.loop-l-test.true; formed = c.requires.formed; upto = c.loop-l.invariant }
+next_level-requires c =
+    record { l_bound = c.loop-l-test.true; formed = c.requires.formed; upto = c.loop-l.invariant }
 
 pub loop-l-smaller : goal.loop-l-smaller
 loop-l-smaller c = omega (arith, c.loop-l-test.true)

@@ -81,5 +81,6 @@ returns-in-Binary c = let k = c.count-in-Binary in
           (says_true c.has-in-Binary.ensures)
           k.ensures,
       count_says (says_true
-          c.has-in-Binary-2.ensures) (says_true c.has-in-Binary-3.ensures) c.count-in-Binary-2.ensures,
+          c.has-in-Binary-2.ensures) (says_true c.has-in-Binary-3.ensures)
+          c.count-in-Binary-2.ensures,
     )

@@ -5,7 +5,8 @@ use borrow.Author.Rules.{rules}
 use Rattle.check_text.proofs.check_text.Goals as goal
 
 pub returns-then-input-gt16384 : goal.returns-then-input-gt16384
-returns-then-input-gt16384 c = record { text = _; is = long (search rules) refl; wrote = c.put_refusal.ensures }
+returns-then-input-gt16384 c =
+    record { text = _; is = long (search rules) refl; wrote = c.put_refusal.ensures }
 
 pub check_at-requires : goal.check_at-requires
 check_at-requires c =
@@ -18,8 +19,7 @@ returns-in-Nowhere c =
     record {
       text = _;
       is = whole (search rules) (rw c.in-Nowhere.is at s) refl;
-      wrote =
-          c.put_refusal-in-Nowhere.ensures;
+      wrote = c.put_refusal-in-Nowhere.ensures;
     }
 
 pub returns-in-At : goal.returns-in-At
@@ -28,7 +28,6 @@ returns-in-At c =
     let s = c.parting-place.ensures in
     record {
       text = a.text;
-      is =
-          checked (search rules) (rw c.in-At.is at s).1 a.is;
+      is = checked (search rules) (rw c.in-At.is at s).1 a.is;
       wrote = a.wrote;
     }

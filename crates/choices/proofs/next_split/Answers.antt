@@ -11,7 +11,8 @@ pub loop-left-init : goal.loop-left-init
 loop-left-init c = (omega arith, λ j l h q. omega arith)
 
 pub clause_fits-requires : goal.clause_fits-requires
-clause_fits-requires c = record { room = c.requires.room; small_clause = c.requires.small_rule.clause }
+clause_fits-requires c =
+    record { room = c.requires.room; small_clause = c.requires.small_rule.clause }
 
 pub returns-then-clause_fits : goal.returns-then-clause_fits
 returns-then-clause_fits c =

@@ -5,7 +5,8 @@ use Rattle.choices.proofs.next_split.Given as goal
 
 abbrev pub invariant-loop-left : goal.invariant-loop-left
 invariant-loop-left l = (l.from ≤ l.left)
-    × ((j : ℕ) → j < l.left → l.from ≤ j → Fits (One l.words l.n) (by_marks l.k l.len) l.start l.len l.c j → ⊥)
+    × ((j : ℕ) → j < l.left → l.from ≤ j
+    → Fits (One l.words l.n) (by_marks l.k l.len) l.start l.len l.c j → ⊥)
 
 abbrev pub decreases-loop-left : goal.decreases-loop-left
 decreases-loop-left l = l.last + 1 - l.left

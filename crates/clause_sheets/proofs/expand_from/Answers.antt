@@ -39,23 +39,29 @@ walked ps past q a h e =
 
 pub returns-then-out : goal.returns-then-out
 returns-then-out c =
-    reads_as (out_over (walked _ _ _ c.requires.all_said (omega arith) c.lines_emit-out.ensures) c.if-out.true)
+    reads_as (out_over (walked _ _ _ c.requires.all_said (omega arith) c.lines_emit-out.ensures)
+    c.if-out.true)
     c.refuse_rules-then-out.ensures
 
 pub sorted-g-requires : goal.sorted-g-requires
-sorted-g-requires c = let w = walked _ _ _ c.requires.all_said (omega arith) c.lines_emit-out.ensures in
+sorted-g-requires c = let w =
+    walked _ _ _ c.requires.all_said (omega arith) c.lines_emit-out.ensures in
     let f = c.if-out.false in
     (out_few w f, omega (arith, out_long w f, length-map c.lines_emit-out.new.rules word_rule))
 
 pub index_of-x-requires : goal.index_of-x-requires
-index_of-x-requires c = out_formed (walked _ _ _ c.requires.all_said (omega arith) c.lines_emit-out.ensures) c.if-out.false c.sorted-g.ensures
+index_of-x-requires c = out_formed
+    (walked _ _ _ c.requires.all_said (omega arith) c.lines_emit-out.ensures) c.if-out.false
+    c.sorted-g.ensures
 
 pub finished-requires : goal.finished-requires
 finished-requires c = (
-  out_formed (walked _ _ _ c.requires.all_said (omega arith) c.lines_emit-out.ensures) c.if-out.false c.sorted-g.ensures,
+  out_formed (walked _ _ _ c.requires.all_said (omega arith) c.lines_emit-out.ensures)
+      c.if-out.false c.sorted-g.ensures,
   c.index_of-x.ensures,
 )
 
 pub returns : goal.returns
-returns c = reads_as (out_end (walked _ _ _ c.requires.all_said (omega arith) c.lines_emit-out.ensures) c.if-out.false c.sorted-g.ensures)
+returns c = reads_as (out_end (walked _ _ _ c.requires.all_said (omega arith)
+    c.lines_emit-out.ensures) c.if-out.false c.sorted-g.ensures)
     c.finished.ensures

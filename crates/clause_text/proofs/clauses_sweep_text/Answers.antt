@@ -14,7 +14,12 @@ put_sentence-requires c =
     record {
       count_bound = omega arith;
       count_in_bounds =
-          omega (arith, c.put_head-n.ensures.upper_bound, c.put_head-n.ensures.wrote.long, c.requires);
+          omega (
+            arith,
+            c.put_head-n.ensures.upper_bound,
+            c.put_head-n.ensures.wrote.long,
+            c.requires,
+          );
     }
 
 pub returns : goal.returns
@@ -23,6 +28,5 @@ returns c =
     record {
       text = _;
       is = swept few c.sweep-r.ensures refl;
-      wrote =
-          wrote_then c.put_head-n.ensures.wrote c.put_sentence.ensures;
+      wrote = wrote_then c.put_head-n.ensures.wrote c.put_sentence.ensures;
     }

@@ -70,7 +70,10 @@ columns-m-requires t c =
 pub loop-i-init : goal.loop-i-init
 loop-i-init t c = (
   turn_none c.requires.spread (omega (arith, c.if-r-t.false)),
-  record { beside = c.fill_between.ensures.beside; solved = c.fill_between.ensures.advances.solved },
+  record {
+    beside = c.fill_between.ensures.beside;
+    solved = c.fill_between.ensures.advances.solved;
+  },
 )
 
 pub narrowed-s-requires : goal.narrowed-s-requires

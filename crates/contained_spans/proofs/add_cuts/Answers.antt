@@ -14,7 +14,8 @@ pub loop-rest-init : goal.loop-rest-init
 loop-rest-init c = (joins_whole _ _ _, λ k i. i)
 
 -- the cut lies within the span
-inside : (c : Lts.After-wide Tie.the-claims Reads.Pre Reads.Post goal.the-invariant-loop-rest goal.the-decreases-loop-rest Tie.handed_clauses)
+inside : (c : Lts.After-wide Tie.the-claims Reads.Pre Reads.Post goal.the-invariant-loop-rest
+    goal.the-decreases-loop-rest Tie.handed_clauses)
     → (c.args.start < c.wide.result)
     × (c.wide.result < c.args.start
     + c.args.len)

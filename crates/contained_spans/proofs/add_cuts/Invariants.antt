@@ -13,7 +13,8 @@ Cut n s len c k q B = Kid n s len c (k - s) q B
 
 abbrev pub invariant-loop-rest : goal.invariant-loop-rest
 invariant-loop-rest l =
-    Joins (Gone (Cut l.n l.start l.len l.c) l.set l.rest) l.initial.reach l.reach × ((k : ℕ) → In l.rest k → In l.set k)
+    Joins (Gone (Cut l.n l.start l.len l.c) l.set l.rest) l.initial.reach l.reach
+    × ((k : ℕ) → In l.rest k → In l.set k)
 
 abbrev pub decreases-loop-rest : goal.decreases-loop-rest
 decreases-loop-rest l = l.rest

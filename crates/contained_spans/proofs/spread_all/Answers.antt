@@ -8,11 +8,17 @@ use Rattle.contained_spans.proofs.DoneLaws.{span_wide, done_last}
 use Rattle.contained_spans.proofs.spread_all.Goals as goal
 
 pub loop-start-init : goal.loop-start-init
-loop-start-init c = (omega arith, c.requires.columns.0, c.requires.columns.1, c.requires.done, refl, refl)
+loop-start-init c =
+    (omega arith, c.requires.columns.0, c.requires.columns.1, c.requires.done, refl, refl)
 
 pub spread_start-requires : goal.spread_start-requires
 spread_start-requires c =
-    let l = c.loop-start in record { known = c.requires.known; start_lt_count = (c.loop-start-test.true, l.invariant.1); seen_columns = l.invariant.2; done = l.invariant.3 }
+    let l = c.loop-start in record {
+      known = c.requires.known;
+      start_lt_count = (c.loop-start-test.true, l.invariant.1);
+      seen_columns = l.invariant.2;
+      done = l.invariant.3;
+    }
 
 pub overflow_add-start : goal.overflow_add-start
 overflow_add-start c =

@@ -15,7 +15,11 @@ returns-then-len-eq0 c =
 pub spread_cuts-some-requires : goal.spread_cuts-some-requires
 spread_cuts-some-requires c =
     let r = c.requires.ready in
-    let pos : 0 < c.args.len = omega (arith, c.if-len-eq0.false) in record { b_bound = (c.requires.b_bound.0, c.requires.b_bound.1, pos, bounded (r.table pos)); space = (c.requires.room.1, r.seen pos) }
+    let pos : 0 < c.args.len = omega (arith, c.if-len-eq0.false) in
+    record {
+      b_bound = (c.requires.b_bound.0, c.requires.b_bound.1, pos, bounded (r.table pos));
+      space = (c.requires.room.1, r.seen pos);
+    }
 
 pub spread_ends-ends-requires : goal.spread_ends-ends-requires
 spread_ends-ends-requires c =
@@ -47,6 +51,7 @@ returns c =
       arith,
       c.if-len-eq0.false,
     ) in
-    spread-binary c.requires.room.0.few c.requires.b_bound.0 c.requires.b_bound.1 pos c.requires.room.0.fits
+    spread-binary c.requires.room.0.few c.requires.b_bound.0 c.requires.b_bound.1 pos
+    c.requires.room.0.fits
     (c.requires.ready.table pos) c.spread_cuts-some.ensures c.spread_ends-ends.ensures
     c.plus.ensures

@@ -25,10 +25,12 @@ returns-then-set-eq0 c = record {
 }
 
 -- the cuts lie within the span
-inside : (c : Lts.After-hits Tie.the-claims Reads.Pre Reads.Post Tie.handed_clauses) → Inner c.hits-set.result
+inside : (c : Lts.After-hits Tie.the-claims Reads.Pre Reads.Post Tie.handed_clauses)
+    → Inner c.hits-set.result
     c.args.start c.args.len
 inside c =
-    hits_inner c.requires.b_bound.3 c.requires.b_bound.0 c.requires.b_bound.1 c.requires.b_bound.2 c.requires.space.0.fits
+    hits_inner c.requires.b_bound.3 c.requires.b_bound.0 c.requires.b_bound.1 c.requires.b_bound.2
+    c.requires.space.0.fits
     c.hits-set.ensures
 
 -- those that were not in both words
@@ -60,7 +62,8 @@ add_cuts-requires c = record {
 pub returns : goal.returns
 returns c =
     let p = c.requires.b_bound in
-    let i = inside c.before.before.before.before.before.before.before.before.before.before.before.before.before in
+    let i = inside
+    c.before.before.before.before.before.before.before.before.before.before.before.before.before in
     let u = rest c.before.before.before.before.before.before.before.before in
     let j = c.add_cuts.ensures in
     record {

@@ -18,7 +18,11 @@ pair_at-p-requires c = let s =
 
 pub work_off-requires : goal.work_off-requires
 work_off-requires c =
-    let s = c.requires.space.0 in record { room = (known_room c.requires.known.0 c.args.start c.args.len s.fits, s); formed = (c.requires.known.1, c.requires.known.2); ready = c.requires.ready }
+    let s = c.requires.space.0 in record {
+      room = (known_room c.requires.known.0 c.args.start c.args.len s.fits, s);
+      formed = (c.requires.known.1, c.requires.known.2);
+      ready = c.requires.ready;
+    }
 
 pub offset_bounds-parts-p : goal.offset_bounds-parts-p
 offset_bounds-parts-p c =

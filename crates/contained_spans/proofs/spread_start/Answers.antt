@@ -94,5 +94,6 @@ returns c =
     record {
       columns = l.invariant.1.columns;
       seen = l.invariant.2.columns;
-      done = start_last (let e : l.len ≡ 0 = omega (arith, c.loop-len-test.false) in e) l.invariant.3;
+      done = start_last (let e : l.len ≡ 0 = omega (arith, c.loop-len-test.false) in e)
+          l.invariant.3;
     }

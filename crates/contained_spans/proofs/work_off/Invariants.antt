@@ -10,7 +10,8 @@ use Rattle.contained_spans.proofs.work_off.Given as goal
 
 abbrev pub invariant-loop-i : goal.invariant-loop-i
 invariant-loop-i l =
-    Trying l.words (rules_of l.g) l.n l.start l.len l.k l.initial.reach l.reach l.done l.parted l.a l.count l.i × (l.a < 64)
+    Trying l.words (rules_of l.g) l.n l.start l.len l.k l.initial.reach l.reach l.done l.parted l.a
+    l.count l.i × (l.a < 64)
     × (length l.seen ≡ 4160) × (0 < l.len → SeenAt l.n l.start l.reach l.seen)
 
 abbrev pub decreases-loop-i : goal.decreases-loop-i

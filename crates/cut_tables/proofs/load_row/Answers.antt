@@ -38,7 +38,8 @@ pair_at-at-requires c = (
 )
 
 -- where the pair stands
-low : (c : Lts.After-pair_at Tie.the-claims Reads.Pre Reads.Post goal.the-invariant-loop-end goal.the-decreases-loop-end) → 2 * c.pair_at-at.result < 4162
+low : (c : Lts.After-pair_at Tie.the-claims Reads.Pre Reads.Post goal.the-invariant-loop-end
+    goal.the-decreases-loop-end) → 2 * c.pair_at-at.result < 4162
 low c =
     omega (
       arith,

@@ -1,18 +1,5 @@
-use borrow.Author.Rules.{rules}
 use mathlib.Core.Path.{refl}
 use Rattle.cuts.proofs.once.Goals as goal
-
--- src/lib.rt:81:9
-pub with-one-requires : goal.with-one-requires
-with-one-requires c = search rules
-
--- src/lib.rt:82:8
-pub has-requires : goal.has-requires
-has-requires c = search rules
-
--- src/lib.rt:85:18
-pub with-requires : goal.with-requires
-with-requires c = search rules
 
 -- src/lib.rt:83:9
 pub returns-then-has : goal.returns-then-has
@@ -20,8 +7,7 @@ returns-then-has c =
     record {
       one = c.with-one.ensures;
       met = λ m. c.with.ensures;
-      new =
-          λ n. absurd (n (c.has.ensures.is c.if-has.true));
+      new = λ n. absurd (n (c.has.ensures.is c.if-has.true));
     }
 
 -- src/lib.rt:77:1
@@ -29,7 +15,6 @@ pub returns : goal.returns
 returns c =
     record {
       one = c.with-one.ensures;
-      met =
-          λ m. absurd (c.has.ensures.isnt c.if-has.false m);
+      met = λ m. absurd (c.has.ensures.isnt c.if-has.false m);
       new = λ n. refl;
     }

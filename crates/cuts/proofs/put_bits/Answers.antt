@@ -1,4 +1,3 @@
-use borrow.Author.Rules.{rules}
 use Prim.Native.Nat.{◌<◌}
 use native.Mathlib.Omega.{arith}
 use mathlib.Core.Path.{sym, subst}
@@ -9,46 +8,6 @@ use Rattle.cuts.proofs.put_bits.Goals as goal
 -- src/lib.rt:188:5
 pub loop-rest-init : goal.loop-rest-init
 loop-rest-init c = putting_none _ _ _ _
-
--- src/lib.rt:189:32
-pub lowest-requires : goal.lowest-requires
-lowest-requires c = search rules
-
--- src/lib.rt:189:26
-pub place-requires : goal.place-requires
-place-requires c = search rules
-
--- src/lib.rt:189:22
-pub overflow_mul-at : goal.overflow_mul-at
-overflow_mul-at c = search rules
-
--- src/lib.rt:189:18
-pub overflow_add-at : goal.overflow_add-at
-overflow_add-at c = search rules
-
--- src/lib.rt:190:26
-pub offset_bounds-words-at : goal.offset_bounds-words-at
-offset_bounds-words-at c = search rules
-
--- src/lib.rt:190:26
-pub bounds-words-at : goal.bounds-words-at
-bounds-words-at c = search rules
-
--- src/lib.rt:190:21
-pub with-requires : goal.with-requires
-with-requires c = search rules
-
--- src/lib.rt:190:9
-pub offset_bounds-words-at-in-loop-rest : goal.offset_bounds-words-at-in-loop-rest
-offset_bounds-words-at-in-loop-rest c = search rules
-
--- src/lib.rt:190:9
-pub bounds-words-at-in-loop-rest : goal.bounds-words-at-in-loop-rest
-bounds-words-at-in-loop-rest c = search rules
-
--- src/lib.rt:191:24
-pub overflow_sub-rest : goal.overflow_sub-rest
-overflow_sub-rest c = search rules
 
 -- src/lib.rt:188:5
 pub loop-rest-smaller : goal.loop-rest-smaller

@@ -15,7 +15,8 @@ pub loop-rest-init : goal.loop-rest-init
 loop-rest-init c = ((twice_none _ _ _ _, refl), (twice_none _ _ _ _, refl))
 
 -- both words lie in the rows, and in the columns
-rows_in : (c : Lts.After-place Tie.the-claims Reads.Pre Reads.Post goal.the-invariant-loop-rest goal.the-decreases-loop-rest Tie.handed_clauses)
+rows_in : (c : Lts.After-place Tie.the-claims Reads.Pre Reads.Post goal.the-invariant-loop-rest
+    goal.the-decreases-loop-rest Tie.handed_clauses)
     → 2 * c.place-at.result + 1 < length c.loop-rest.rows
 rows_in c =
     omega (
@@ -26,7 +27,8 @@ rows_in c =
       c.requires.e_bound.1,
     )
 
-cols-in : (c : Lts.After-place Tie.the-claims Reads.Pre Reads.Post goal.the-invariant-loop-rest goal.the-decreases-loop-rest Tie.handed_clauses) →
+cols-in : (c : Lts.After-place Tie.the-claims Reads.Pre Reads.Post goal.the-invariant-loop-rest
+    goal.the-decreases-loop-rest Tie.handed_clauses) →
     c.args.p + 2 * c.place-at.result + 1 < length c.loop-rest.cols
 cols-in c =
     omega (
@@ -102,13 +104,15 @@ loop-rest-preserved c =
     let w3 = c.with-in-loop-rest-2 in
     let w4 = c.with-in-loop-rest-3 in (
       (
-        twice_at at w.result w2.result m (omega arith) (rows_in c.before.before.before.before.before.before.before.before) w.ensures
+        twice_at at w.result w2.result m (omega arith)
+            (rows_in c.before.before.before.before.before.before.before.before) w.ensures
             w2.ensures l.invariant.0.0,
         length-set (set l.rows at w.result) (at + 1) w2.result
             ∙ length-set l.rows at w.result ∙ l.invariant.0.1,
       ),
       (
-        twice_more w3.result m (cols-in c.before.before.before.before.before.before.before.before) w3.ensures l.invariant.1.0 w4.result
+        twice_more w3.result m (cols-in c.before.before.before.before.before.before.before.before)
+            w3.ensures l.invariant.1.0 w4.result
             w4.ensures,
         length-set (set l.cols to w3.result) (to + 1) w4.result
             ∙ length-set l.cols to w3.result ∙ l.invariant.1.1,
@@ -123,4 +127,8 @@ shape_of-cols c = c.loop-rest.invariant.1.1
 
 pub returns : goal.returns
 returns c =
-    let l = c.loop-rest in record { put_pair = twice_done (search rules) c.loop-rest-test.false l.invariant.0.0; put_pair_2 = twice_done (search rules) c.loop-rest-test.false l.invariant.1.0 }
+    let l = c.loop-rest in record {
+      put_pair = twice_done (search rules) c.loop-rest-test.false
+          l.invariant.0.0;
+      put_pair_2 = twice_done (search rules) c.loop-rest-test.false l.invariant.1.0;
+    }

@@ -1,4 +1,3 @@
-use borrow.Author.Rules.{rules}
 use mathlib.Core.Path.{refl}
 use native.Mathlib.Omega.{arith}
 use Rattle.cuts.proofs.put_row.Goals as goal
@@ -8,23 +7,10 @@ pub returns-then-e-ge64 : goal.returns-then-e-ge64
 returns-then-e-ge64 c =
     record { size = refl; inner = λ h. absurd (omega (arith, c.if-e-ge64.true)); last = λ h. refl }
 
--- src/lib.rt:212:26
-pub overflow_cast-e : goal.overflow_cast-e
-overflow_cast-e c = search rules
-
--- src/lib.rt:212:5
-pub put_pair-requires : goal.put_pair-requires
-put_pair-requires c = search rules
-
--- src/lib.rt:205:1
-pub shape_of-rows : goal.shape_of-rows
-shape_of-rows c = search rules
-
 -- src/lib.rt:205:1
 pub returns : goal.returns
 returns c = record {
   size = c.put_pair.ensures.size;
   inner = λ h. c.put_pair.ensures;
-  last =
-      λ h. absurd (omega (arith, c.if-e-ge64.false));
+  last = λ h. absurd (omega (arith, c.if-e-ge64.false));
 }

@@ -14,7 +14,8 @@ pub loop-rest-init : goal.loop-rest-init
 loop-rest-init c = (twice_none _ _ _ _, refl)
 
 -- both words lie in the slice
-inside : (c : Lts.After-place Tie.the-claims Reads.Pre Reads.Post goal.the-invariant-loop-rest goal.the-decreases-loop-rest) →
+inside : (c : Lts.After-place Tie.the-claims Reads.Pre Reads.Post goal.the-invariant-loop-rest
+    goal.the-decreases-loop-rest) →
     c.args.p + 2 * c.place.result + 1 < length c.loop-rest.words
 inside c =
     omega (

@@ -6,7 +6,8 @@ use Rattle.cuts.proofs.put_twice.Given as goal
 
 abbrev pub invariant-loop-rest : goal.invariant-loop-rest
 invariant-loop-rest l =
-    PuttingTwice l.initial.words l.words l.p l.set l.c l.rest × (length l.words ≡ length l.initial.words)
+    PuttingTwice l.initial.words l.words l.p l.set l.c l.rest
+    × (length l.words ≡ length l.initial.words)
 
 abbrev pub decreases-loop-rest : goal.decreases-loop-rest
 decreases-loop-rest l = l.rest

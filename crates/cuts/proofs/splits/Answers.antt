@@ -41,7 +41,12 @@ returns-then-b-eq0 c =
 
 pub try_places-t-requires : goal.try_places-t-requires
 try_places-t-requires c =
-    let a = c.args in record { formed = (c.requires.formed.0, omega arith, c.requires.formed.1.low); lefts_at = c.requires.formed.1.lows; in_bounds = c.requires.in_bounds; cut_counts = cut_none a.rows.now a.cols.now a.p a.w (rules_of a.g) }
+    let a = c.args in record {
+      formed = (c.requires.formed.0, omega arith, c.requires.formed.1.low);
+      lefts_at = c.requires.formed.1.lows;
+      in_bounds = c.requires.in_bounds;
+      cut_counts = cut_none a.rows.now a.cols.now a.p a.w (rules_of a.g);
+    }
 
 pub returns-then-b-eq0-2 : goal.returns-then-b-eq0-2
 returns-then-b-eq0-2 c =
@@ -52,7 +57,12 @@ returns-then-b-eq0-2 c =
     c.if-b-eq0-2.true t.ensures)
 
 pub try_places-requires-2 : goal.try_places-requires-2
-try_places-requires-2 c = record { formed = (c.requires.formed.0, omega arith, c.requires.formed.1.high); lefts_at = c.requires.formed.1.highs; in_bounds = c.requires.in_bounds; cut_counts = c.try_places-t.ensures }
+try_places-requires-2 c = record {
+  formed = (c.requires.formed.0, omega arith, c.requires.formed.1.high);
+  lefts_at = c.requires.formed.1.highs;
+  in_bounds = c.requires.in_bounds;
+  cut_counts = c.try_places-t.ensures;
+}
 
 pub returns : goal.returns
 returns c =

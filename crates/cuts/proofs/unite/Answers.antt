@@ -1,4 +1,3 @@
-use borrow.Author.Rules.{rules}
 use mathlib.Core.Path.{subst}
 use Prim.Native.Nat.{◌<◌}
 use native.Mathlib.Omega.{arith}
@@ -28,10 +27,6 @@ words_of-u-requires c = (c.lowest-b.ensures.small, c.requires.p_in_bounds)
 -- src/lib.rt:254:26
 pub has-requires : goal.has-requires
 has-requires c = c.lowest-b.ensures.small
-
--- src/lib.rt:254:9
-pub joined-t-requires : goal.joined-t-requires
-joined-t-requires c = search rules
 
 -- src/lib.rt:255:24
 pub overflow_sub-rest : goal.overflow_sub-rest

@@ -8,7 +8,8 @@ pub loop-x-init : goal.loop-x-init
 loop-x-init c = (omega arith, spares_none (rules_of c.args.g) c.args.set)
 
 pub with_needed-kept-requires : goal.with_needed-kept-requires
-with_needed-kept-requires c = record { formed = c.requires; x_bound = omega arith; spares = c.loop-x.invariant.1 }
+with_needed-kept-requires c =
+    record { formed = c.requires; x_bound = omega arith; spares = c.loop-x.invariant.1 }
 
 pub loop-x-preserved : goal.loop-x-preserved
 loop-x-preserved c = (omega arith, c.with_needed-kept.ensures)

@@ -6,7 +6,8 @@ use Rattle.dominance.proofs.LeftSets.{replaced_of}
 use Rattle.dominance.proofs.replaced.Goals as goal
 
 pub serves-requires : goal.serves-requires
-serves-requires c = record { formed = c.requires.formed; y_bound = omega (arith, c.requires.x_bound) }
+serves-requires c =
+    record { formed = c.requires.formed; y_bound = omega (arith, c.requires.x_bound) }
 
 pub returns-then-serves : goal.returns-then-serves
 returns-then-serves c =

@@ -7,7 +7,8 @@ use Rattle.doubt_list.proofs.list_all.Given as goal
 
 abbrev pub invariant-loop-a : goal.invariant-loop-a
 invariant-loop-a l =
-    (l.a ≤ 64) × Lists (rules_of l.g) l.initial.list l.list l.initial.k l.k (at 0 0 0 0) (at l.a 0 0 0)
+    (l.a ≤ 64) × Lists (rules_of l.g) l.initial.list l.list l.initial.k l.k (at 0 0 0 0)
+    (at l.a 0 0 0)
 
 abbrev pub decreases-loop-a : goal.decreases-loop-a
 decreases-loop-a l = 64 - l.a

@@ -7,8 +7,12 @@ pub overflow_add-q : goal.overflow_add-q
 overflow_add-q c = omega (arith, c.requires.a_bound.1, c.requires.grounded.formed.few)
 
 pub loop-q-init : goal.loop-q-init
-loop-q-init c =
-    (omega arith, omega (arith, c.requires.a_bound.1), lists_none c.requires.grounded.formed c.requires.count_le_at)
+loop-q-init c = (
+  omega arith,
+  omega (arith, c.requires.a_bound.1),
+  lists_none c.requires.grounded.formed
+      c.requires.count_le_at,
+)
 
 pub list_pair-k-requires : goal.list_pair-k-requires
 list_pair-k-requires c =
@@ -43,5 +47,6 @@ returns c =
     let q = c.loop-q.q in
     lists_then c.requires.grounded.formed i.2
     (skip_places c.requires.grounded c.args.a c.args.p q
-    (omega (arith, c.requires.a_bound.1, c.requires.grounded.formed.few)) i.2.few c.loop-q-test.false
+    (omega (arith, c.requires.a_bound.1, c.requires.grounded.formed.few)) i.2.few
+    c.loop-q-test.false
     (omega (arith, i.1, c.requires.grounded.formed.few)))

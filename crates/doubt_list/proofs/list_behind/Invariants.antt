@@ -7,7 +7,8 @@ use Rattle.doubt_list.proofs.list_behind.Given as goal
 
 abbrev pub invariant-loop-q : goal.invariant-loop-q
 invariant-loop-q l =
-    (l.p < l.q) × (l.q ≤ l.count) × Lists (rules_of l.g) l.initial.list l.list l.initial.k l.k (at l.a l.p (l.p + 1) 0) (at l.a l.p l.q 0)
+    (l.p < l.q) × (l.q ≤ l.count) × Lists (rules_of l.g) l.initial.list l.list l.initial.k l.k
+    (at l.a l.p (l.p + 1) 0) (at l.a l.p l.q 0)
 
 abbrev pub decreases-loop-q : goal.decreases-loop-q
 decreases-loop-q l = l.count - l.q

@@ -7,7 +7,8 @@ use Rattle.doubt_list.proofs.list_left.Given as goal
 
 abbrev pub invariant-loop-p : goal.invariant-loop-p
 invariant-loop-p l =
-    (l.p ≤ l.count) × Lists (rules_of l.g) l.initial.list l.list l.initial.k l.k (at l.a 0 0 0) (at l.a l.p 0 0)
+    (l.p ≤ l.count) × Lists (rules_of l.g) l.initial.list l.list l.initial.k l.k (at l.a 0 0 0)
+    (at l.a l.p 0 0)
 
 abbrev pub decreases-loop-p : goal.decreases-loop-p
 decreases-loop-p l = l.count - l.p

@@ -27,7 +27,12 @@ loop-j-init c = (omega arith, grows_none)
 pub mark_pair-requires : goal.mark_pair-requires
 mark_pair-requires c =
     let i = c.loop-j.invariant in record {
-      in_bounds = (c.requires.in_bounds.0, c.requires.in_bounds.1, c.requires.in_bounds.2, c.loop-j-test.true);
+      in_bounds = (
+        c.requires.in_bounds.0,
+        c.requires.in_bounds.1,
+        c.requires.in_bounds.2,
+        c.loop-j-test.true,
+      );
       end_in_bounds = c.requires.end_in_bounds;
       in_bounds_2 = omega (arith, i.1.size, c.requires.in_bounds_2);
     }

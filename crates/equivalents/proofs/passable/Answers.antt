@@ -29,7 +29,8 @@ has-requires c =
 
 pub returns-then-not-has : goal.returns-then-not-has
 returns-then-not-has c =
-    λ q. pass_terminal c.args.n c.args.b c.args.h c.args.c _ (past c.before.before.before) c.requires.b_le_n.0
+    λ q. pass_terminal c.args.n c.args.b c.args.h c.args.c _ (past c.before.before.before)
+    c.requires.b_le_n.0
     c.cell-d.ensures c.args.set c.args.kept c.requires.candidate
     (c.has.ensures.isnt c.if-not-has.true)
 

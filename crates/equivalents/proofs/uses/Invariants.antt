@@ -7,7 +7,8 @@ use Rattle.candidates.specs.Arrays.{cells}
 use Rattle.equivalents.proofs.uses.Given as goal
 
 abbrev pub invariant-loop-i : goal.invariant-loop-i
-invariant-loop-i l = (l.i ≤ l.b) × (used l.j (cells l.c 0 l.b) ≡ used l.j (cells l.c l.i (l.b - l.i)))
+invariant-loop-i l =
+    (l.i ≤ l.b) × (used l.j (cells l.c 0 l.b) ≡ used l.j (cells l.c l.i (l.b - l.i)))
 
 abbrev pub decreases-loop-i : goal.decreases-loop-i
 decreases-loop-i l = l.b - l.i

@@ -15,7 +15,8 @@ returns-then-b-lt48 c = sym (ap as_number (c.loop-i.invariant.2 ∙ digits_low c
     c.loop-i.i c.loop-i-test.true c.if-b-lt48.true))
 
 pub returns-then-b-gt57 : goal.returns-then-b-gt57
-returns-then-b-gt57 c = sym (ap as_number (c.loop-i.invariant.2 ∙ digits_high c.args.f.now c.loop-i.v
+returns-then-b-gt57 c =
+    sym (ap as_number (c.loop-i.invariant.2 ∙ digits_high c.args.f.now c.loop-i.v
     c.loop-i.i c.loop-i-test.true c.if-b-lt48.false
     c.if-b-gt57.true))
 

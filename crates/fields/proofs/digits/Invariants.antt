@@ -7,7 +7,8 @@ use Rattle.fields.specs.Words.{digits_of}
 use Rattle.fields.proofs.digits.Given as goal
 
 abbrev pub invariant-loop-i : goal.invariant-loop-i
-invariant-loop-i l = (l.i ≤ length l.f) × (l.v < 10 ^ l.i) × (digits_of 0 l.f ≡ digits_of l.v (drop l.i l.f))
+invariant-loop-i l =
+    (l.i ≤ length l.f) × (l.v < 10 ^ l.i) × (digits_of 0 l.f ≡ digits_of l.v (drop l.i l.f))
 
 abbrev pub decreases-loop-i : goal.decreases-loop-i
 decreases-loop-i l = length l.f - l.i

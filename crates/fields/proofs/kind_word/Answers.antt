@@ -22,14 +22,16 @@ returns-then-same-3 c = sym (ap as_kind (skip
 
 pub returns-then-same-4 : goal.returns-then-same-4
 returns-then-same-4 c = sym (ap as_kind (skip
-    (sym c.same.ensures ∙ c.if-same.false) _ _ _ (skip (sym c.same-2.ensures ∙ c.if-same-2.false) _ _
+    (sym c.same.ensures ∙ c.if-same.false) _ _ _
+    (skip (sym c.same-2.ensures ∙ c.if-same-2.false) _ _
     _ (skip (sym c.same-3.ensures
     ∙ c.if-same-3.false) _ _ _
     (hit (sym c.same-4.ensures ∙ c.if-same-4.true) _ _)))))
 
 pub returns : goal.returns
 returns c = sym (ap as_kind (skip
-    (sym c.same.ensures ∙ c.if-same.false) _ _ _ (skip (sym c.same-2.ensures ∙ c.if-same-2.false) _ _
+    (sym c.same.ensures ∙ c.if-same.false) _ _ _
+    (skip (sym c.same-2.ensures ∙ c.if-same-2.false) _ _
     _ (skip (sym c.same-3.ensures
     ∙ c.if-same-3.false) _ _ _
     (skip (sym c.same-4.ensures ∙ c.if-same-4.false) _ _ _ refl)))))

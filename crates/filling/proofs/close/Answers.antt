@@ -1,4 +1,3 @@
-use borrow.Author.Rules.{rules}
 use mathlib.Core.Path.{subst}
 use Prim.Native.Nat.{ℕ}
 use native.Mathlib.Omega.{arith}
@@ -10,11 +9,13 @@ use Rattle.filling.proofs.close.Goals as goal
 -- src/lib.rt:78:9
 pub find-t-requires : goal.find-t-requires
 find-t-requires c =
-    let m = c.requires.mirrors in record { formed = c.requires.formed; len_nonzero = (c.requires.room.1, omega (arith, c.requires.room.0.few, c.requires.room.0.fits)); rows_len = (m.wide, omega (arith, m.long, c.requires.room.0.fits)); table_len = c.requires.begins.1.size }
-
--- src/lib.rt:79:9
-pub pair_at-q-requires : goal.pair_at-q-requires
-pair_at-q-requires c = search rules
+    let m = c.requires.mirrors in record {
+      formed = c.requires.formed;
+      len_nonzero =
+          (c.requires.room.1, omega (arith, c.requires.room.0.few, c.requires.room.0.fits));
+      rows_len = (m.wide, omega (arith, m.long, c.requires.room.0.fits));
+      table_len = c.requires.begins.1.size;
+    }
 
 -- src/lib.rt:80:5
 pub write-requires : goal.write-requires
@@ -26,26 +27,17 @@ write-requires c = omega (
       c.args.n c.args.start c.args.len c.requires.room.0.fits,
 )
 
--- src/lib.rt:85:28
-pub overflow_add-start : goal.overflow_add-start
-overflow_add-start c = search rules
-
 -- src/lib.rt:85:5
 pub put-requires : goal.put-requires
 put-requires c =
-    let m = c.requires.mirrors in record { start_lt_end = (omega (arith, c.requires.room.1), omega (arith, c.requires.room.0.few, c.requires.room.0.fits)); rows_len = (m.wide, omega (arith, m.long, c.requires.room.0.fits)) }
-
--- src/lib.rt:56:1
-pub shape_of-words : goal.shape_of-words
-shape_of-words c = search rules
-
--- src/lib.rt:56:1
-pub shape_of-rows : goal.shape_of-rows
-shape_of-rows c = search rules
-
--- src/lib.rt:56:1
-pub shape_of-cols : goal.shape_of-cols
-shape_of-cols c = search rules
+    let m = c.requires.mirrors in record {
+      start_lt_end = (
+        omega (arith, c.requires.room.1),
+        omega
+            (arith, c.requires.room.0.few, c.requires.room.0.fits),
+      );
+      rows_len = (m.wide, omega (arith, m.long, c.requires.room.0.fits));
+    }
 
 -- src/lib.rt:56:1
 pub returns : goal.returns
@@ -57,7 +49,8 @@ returns c =
     c.pair_at-q.ensures c.write.ensures in
     let few = c.requires.room.0.few in
     let fit = c.requires.room.0.fits in record {
-      cut_joins = found_joins few fit c.requires.formed.0.small m c.requires.begins.0 c.requires.begins.1
+      cut_joins =
+          found_joins few fit c.requires.formed.0.small m c.requires.begins.0 c.requires.begins.1
           c.find-t.ensures wrote;
       mirrors_2 = closing a.words.now c.write.new.words a.n a.start a.len a.rows.now
           a.cols.now c.put.new.rows c.put.new.cols t few fit c.requires.room.1 wrote

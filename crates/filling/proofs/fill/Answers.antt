@@ -21,7 +21,8 @@ whole d long few inner = record { few = few; long = drafted_length d long few; i
 pub returns-then-n-lt2 : goal.returns-then-n-lt2
 returns-then-n-lt2 c =
     let a = c.args in
-    let w = whole c.args.d c.well_formed.1.0.1.1.0.1.0.1 c.requires.count_bound.0 c.requires.count_bound.1 in
+    let w = whole c.args.d c.well_formed.1.0.1.1.0.1.0.1 c.requires.count_bound.0
+    c.requires.count_bound.1 in
     let b : a.d.count < 2 = c.if-n-lt2.true in
     charted a.words.now a.words.now (rules_of a.g) (half a.d) a.d.count w.long
     w.inner a.from (few_grown b
@@ -29,10 +30,12 @@ returns-then-n-lt2 c =
     c.requires.formed.distinct (omega (arith, w.long, w.inner)) c.requires.ready))
 
 pub bounds-words-0 : goal.bounds-words-0
-bounds-words-0 c = omega (arith, c.requires.count_in_bounds, pair_at_below c.args.d.count 0 0 (omega arith))
+bounds-words-0 c =
+    omega (arith, c.requires.count_in_bounds, pair_at_below c.args.d.count 0 0 (omega arith))
 
 pub bounds-words-1 : goal.bounds-words-1
-bounds-words-1 c = omega (arith, c.requires.count_in_bounds, pair_at_below c.args.d.count 0 0 (omega arith))
+bounds-words-1 c =
+    omega (arith, c.requires.count_in_bounds, pair_at_below c.args.d.count 0 0 (omega arith))
 
 pub load_from-requires : goal.load_from-requires
 load_from-requires c = record {
@@ -49,7 +52,8 @@ load_from-requires c = record {
 pub fill_starts-requires : goal.fill_starts-requires
 fill_starts-requires c =
     let a = c.args in
-    let w = whole c.args.d c.well_formed.1.0.1.1.0.1.0.1 c.requires.count_bound.0 c.requires.count_bound.1 in record {
+    let w = whole c.args.d c.well_formed.1.0.1.1.0.1.0.1 c.requires.count_bound.0
+    c.requires.count_bound.1 in record {
       whole = (w, c.requires.ready.within);
       count_in_bounds = c.requires.count_in_bounds;
       formed = (
@@ -70,7 +74,8 @@ fill_starts-requires c =
 pub returns : goal.returns
 returns c =
     let a = c.args in
-    let w = whole c.args.d c.well_formed.1.0.1.1.0.1.0.1 c.requires.count_bound.0 c.requires.count_bound.1 in
+    let w = whole c.args.d c.well_formed.1.0.1.1.0.1.0.1 c.requires.count_bound.0
+    c.requires.count_bound.1 in
     charted a.words.now c.fill_starts.new.words (rules_of a.g)
     (half a.d) a.d.count w.long w.inner a.from
     c.fill_starts.ensures

@@ -20,7 +20,12 @@ pub leaf_at-l-requires : goal.leaf_at-l-requires
 leaf_at-l-requires c =
     let l = c.loop-i in record {
       i_lt_count = (c.loop-i-test.true, c.requires.count_bound);
-      count_in_bounds = omega (arith, l.invariant.past.long, c.write.ensures.kept.long, c.requires.count_in_bounds);
+      count_in_bounds = omega (
+        arith,
+        l.invariant.past.long,
+        c.write.ensures.kept.long,
+        c.requires.count_in_bounds,
+      );
       formed = c.requires.formed;
       empty_pair = c.empty_pair-e.ensures;
       leading = record

@@ -1,4 +1,3 @@
-use borrow.Author.Rules.{rules}
 use mathlib.Core.Path.{refl, sym, ap, ◌∙◌}
 use Prim.Native.Nat.{◌+◌, ◌≤◌, ◌<◌}
 use native.Mathlib.Omega.{arith}
@@ -13,22 +12,18 @@ use Rattle.chart.proofs.SheetLaws.{filled_next, filled_pass, filled_end, filled_
 use Rattle.filling.proofs.ClosingLaws.{cut_joined, empty_kept, ending}
 use Rattle.filling.proofs.fill_start.Goals as goal
 
--- src/lib.rt:137:13
-pub offset_bounds-d-start : goal.offset_bounds-d-start
-offset_bounds-d-start c = search rules
-
--- src/lib.rt:137:13
-pub bounds-d-start : goal.bounds-d-start
-bounds-d-start c = search rules
-
--- src/lib.rt:138:9
-pub first_marks-k-requires : goal.first_marks-k-requires
-first_marks-k-requires c = search rules
-
 -- src/lib.rt:139:5
 pub begin-requires : goal.begin-requires
 begin-requires c =
-    let q = c.requires.rows_len in record { room = record { few = c.requires.whole.0.few; fits = omega (arith, c.requires.whole.1); enough = c.requires.count_in_bounds }; rows_len = q.0; columns = q.1 }
+    let q = c.requires.rows_len in record {
+      room = record {
+        few = c.requires.whole.0.few;
+        fits = omega (arith, c.requires.whole.1);
+        enough = c.requires.count_in_bounds;
+      };
+      rows_len = q.0;
+      columns = q.1;
+    }
 
 -- src/lib.rt:141:5
 pub loop-len-init : goal.loop-len-init
@@ -49,38 +44,6 @@ loop-len-init c =
       c.begin.ensures,
       refl,
     )
-
--- src/lib.rt:141:11
-pub overflow_add-start : goal.overflow_add-start
-overflow_add-start c = search rules
-
--- src/lib.rt:142:18
-pub overflow_add-at : goal.overflow_add-at
-overflow_add-at c = search rules
-
--- src/lib.rt:143:26
-pub overflow_sub-z : goal.overflow_sub-z
-overflow_sub-z c = search rules
-
--- src/lib.rt:143:17
-pub offset_bounds-d-at : goal.offset_bounds-d-at
-offset_bounds-d-at c = search rules
-
--- src/lib.rt:143:17
-pub bounds-d-at : goal.bounds-d-at
-bounds-d-at c = search rules
-
--- src/lib.rt:144:17
-pub offset_bounds-d-at-in-loop-len : goal.offset_bounds-d-at-in-loop-len
-offset_bounds-d-at-in-loop-len c = search rules
-
--- src/lib.rt:144:17
-pub bounds-d-at-in-loop-len : goal.bounds-d-at-in-loop-len
-bounds-d-at-in-loop-len c = search rules
-
--- src/lib.rt:145:9
-pub with_next-k-requires : goal.with_next-k-requires
-with_next-k-requires c = search rules
 
 -- src/lib.rt:146:9
 pub overflow_add-len : goal.overflow_add-len
@@ -106,8 +69,7 @@ load-requires c =
         record {
           few = c.requires.whole.0.few;
           fits = omega (arith, c.loop-len-test.true);
-          enough =
-              omega (arith, l.3.long, c.requires.count_in_bounds);
+          enough = omega (arith, l.3.long, c.requires.count_in_bounds);
         },
         omega (arith, l.0),
       );
@@ -115,16 +77,13 @@ load-requires c =
     }
 
 -- src/lib.rt:141:5
-pub loop-len-smaller-then-start-len : goal.loop-len-smaller-then-start-len
-loop-len-smaller-then-start-len c = search rules
-
--- src/lib.rt:141:5
 pub loop-len-preserved-then-start-len : goal.loop-len-preserved-then-start-len
 loop-len-preserved-then-start-len c =
     let l = c.loop-len.invariant in (
       omega arith,
       omega (arith, c.loop-len-test.true),
-      (next_carried c.args.d _ _ _ _ c.loop-len.invariant.0 c.loop-len-test.true c.with_next-k.ensures c.loop-len.invariant.2),
+      (next_carried c.args.d _ _ _ _ c.loop-len.invariant.0 c.loop-len-test.true
+          c.with_next-k.ensures c.loop-len.invariant.2),
       l.3,
       l.4,
       filled_pass _ _ _ _ _ _ _ (omega (arith, c.if-start-len.true)) l.5,
@@ -152,10 +111,6 @@ close-requires c =
     }
 
 -- src/lib.rt:141:5
-pub loop-len-smaller : goal.loop-len-smaller
-loop-len-smaller c = search rules
-
--- src/lib.rt:141:5
 pub loop-len-preserved : goal.loop-len-preserved
 loop-len-preserved c =
     let a = c.args in
@@ -171,13 +126,16 @@ loop-len-preserved c =
     omega (arith, c.if-start-len.false) in
     let ws = c.close.new.words in
     let j = cut_joined b.words ws g h n a.start len c.with_next-k.result
-    c.requires.formed.0.distinct (omega (arith, c.requires.whole.0.long, c.requires.whole.0.inner)) fit
-    long (carried_all _ _ _ _ ((next_carried c.args.d _ _ _ _ c.loop-len.invariant.0 c.loop-len-test.true c.with_next-k.ensures c.loop-len.invariant.2)))
+    c.requires.formed.0.distinct (omega (arith, c.requires.whole.0.long, c.requires.whole.0.inner))
+    fit
+    long (carried_all _ _ _ _ ((next_carried c.args.d _ _ _ _ c.loop-len.invariant.0
+    c.loop-len-test.true c.with_next-k.ensures c.loop-len.invariant.2)))
     (filled_ground b.words g h n a.from a.start len fit l.5)
     c.close.ensures.cut_joins in (
       omega arith,
       fit,
-      (next_carried c.args.d _ _ _ _ c.loop-len.invariant.0 c.loop-len-test.true c.with_next-k.ensures c.loop-len.invariant.2),
+      (next_carried c.args.d _ _ _ _ c.loop-len.invariant.0 c.loop-len-test.true
+          c.with_next-k.ensures c.loop-len.invariant.2),
       past_then l.3 (kept_past n a.start len fit j.kept),
       given_then l.4 (given_kept b.words ws n a.start len fit long j.kept),
       filled_on b.words ws g h n a.from a.start len long fit far l.5 j,
@@ -204,8 +162,7 @@ returns c =
     let l = c.loop-len.invariant in record {
       filled_from = record {
         filled = filled_end _ _ _ _ _ _ _ (omega (arith, c.loop-len-test.false)) l.5;
-        given =
-            l.4;
+        given = l.4;
         past = l.3;
       };
       columns = ending (omega (arith, c.loop-len-test.false)) l.7;

@@ -15,8 +15,10 @@ abbrev pub invariant-loop-len : goal.invariant-loop-len
 invariant-loop-len l =
     (0 < l.len) × (l.start + l.len ≤ l.d.count) × Carried (half l.d) l.start l.len l.k
     × Past (2 * pairs l.d.count) l.initial.words l.words × Given l.initial.words l.words l.d.count
-    × Filled l.words (rules_of l.g) (half l.d) l.d.count l.from l.start (l.len + 1) × Begins l.words l.e
-    × Mirrors l.words l.d.count l.start (l.len + 1) l.rows l.cols × (length l.cols ≡ length l.initial.cols)
+    × Filled l.words (rules_of l.g) (half l.d) l.d.count l.from l.start (l.len + 1)
+    × Begins l.words l.e
+    × Mirrors l.words l.d.count l.start (l.len + 1) l.rows l.cols
+    × (length l.cols ≡ length l.initial.cols)
 
 abbrev pub decreases-loop-len : goal.decreases-loop-len
 decreases-loop-len l =

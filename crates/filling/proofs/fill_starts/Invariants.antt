@@ -9,8 +9,10 @@ use Rattle.filling.proofs.fill_starts.Given as goal
 
 abbrev pub invariant-loop-start : goal.invariant-loop-start
 invariant-loop-start l = (l.start ≤ l.d.count)
-    × FilledFrom l.initial.words l.words (rules_of l.g) (half l.d) l.d.count l.from l.start × (length l.rows ≡ 128)
-    × Columns l.words l.d.count l.start l.cols × Begins l.words l.e × (length l.cols ≡ length l.initial.cols)
+    × FilledFrom l.initial.words l.words (rules_of l.g) (half l.d) l.d.count l.from l.start
+    × (length l.rows ≡ 128)
+    × Columns l.words l.d.count l.start l.cols × Begins l.words l.e
+    × (length l.cols ≡ length l.initial.cols)
 
 abbrev pub decreases-loop-start : goal.decreases-loop-start
 decreases-loop-start l = l.start

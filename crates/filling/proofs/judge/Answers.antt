@@ -1,21 +1,16 @@
 -- The verdict is read off the pair of the whole sentence.
-use mathlib.Core.Path.{◌≡◌, refl}
-use native.Mathlib.Omega.{arith}
-use Prim.Native.Nat.{◌≤◌}
-use lib.ListN.{length}
-use lib.Seq.{length-take-le}
+use mathlib.Core.Path.{refl}
+use Rattle.grammar.proofs.SentenceLaws.{whole}
 use Rattle.chart.proofs.SheetLaws.{judged, reads_none, reads_one, reads_two}
-use Rattle.grammar.specs.declared.Sentence.{Sentence}
-use Rattle.grammar.specs.Sentences.{spelled}
 use Rattle.filling.proofs.judge.Goals as goal
-
--- the array of tokens has 64 places
-whole : (s : Sentence) → length s.tokens ≡ 64 → s.count ≤ 64 → length (spelled s) ≡ s.count
-whole s long few = length-take-le s.count s.tokens (omega arith)
 
 pub fill_all-requires : goal.fill_all-requires
 fill_all-requires c =
-    record { count_bound = (c.requires.count_bound, refl); count_in_bounds = c.requires.count_in_bounds; formed = c.requires.formed }
+    record {
+      count_bound = (c.requires.count_bound, refl);
+      count_in_bounds = c.requires.count_in_bounds;
+      formed = c.requires.formed;
+    }
 
 pub returns-then-not-in_first : goal.returns-then-not-in_first
 returns-then-not-in_first c =

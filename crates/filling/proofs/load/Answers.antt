@@ -1,4 +1,3 @@
-use borrow.Author.Rules.{rules}
 use mathlib.Core.Path.{ap, sym}
 use Prim.Native.Nat.{ℕ, ◌+◌, ◌*◌}
 use lib.ListN.{get_or}
@@ -9,43 +8,67 @@ use Rattle.filling.proofs.load.Goals as goal
 
 -- src/lib.rt:94:14
 pub overflow_mul-at : goal.overflow_mul-at
-overflow_mul-at c = omega (arith, c.requires.room.0.enough, c.pair_at-at.ensures, pair_at_below c.args.n c.args.start c.args.len c.requires.room.0.fits, c.well_formed.0.1)
+overflow_mul-at c = omega (
+  arith,
+  c.requires.room.0.enough,
+  c.pair_at-at.ensures,
+  pair_at_below
+      c.args.n c.args.start c.args.len c.requires.room.0.fits,
+  c.well_formed.0.1,
+)
 
 -- src/lib.rt:96:14
 pub offset_bounds-words-at : goal.offset_bounds-words-at
-offset_bounds-words-at c = omega (arith, c.requires.room.0.enough, c.pair_at-at.ensures, pair_at_below c.args.n c.args.start c.args.len c.requires.room.0.fits, c.well_formed.0.1)
+offset_bounds-words-at c = omega (
+  arith,
+  c.requires.room.0.enough,
+  c.pair_at-at.ensures,
+  pair_at_below c.args.n c.args.start
+      c.args.len c.requires.room.0.fits,
+  c.well_formed.0.1,
+)
 
 -- src/lib.rt:96:14
 pub bounds-words-at : goal.bounds-words-at
-bounds-words-at c = omega (arith, c.requires.room.0.enough, c.pair_at-at.ensures, pair_at_below c.args.n c.args.start c.args.len c.requires.room.0.fits)
+bounds-words-at c = omega (
+  arith,
+  c.requires.room.0.enough,
+  c.pair_at-at.ensures,
+  pair_at_below
+      c.args.n c.args.start c.args.len c.requires.room.0.fits,
+)
 
 -- src/lib.rt:97:20
 pub overflow_add-p : goal.overflow_add-p
-overflow_add-p c = omega (arith, c.requires.room.0.enough, c.pair_at-at.ensures, pair_at_below c.args.n c.args.start c.args.len c.requires.room.0.fits, c.well_formed.0.1)
+overflow_add-p c = omega (
+  arith,
+  c.requires.room.0.enough,
+  c.pair_at-at.ensures,
+  pair_at_below
+      c.args.n c.args.start c.args.len c.requires.room.0.fits,
+  c.well_formed.0.1,
+)
 
 -- src/lib.rt:97:14
 pub offset_bounds-words-at-2 : goal.offset_bounds-words-at-2
-offset_bounds-words-at-2 c = omega (arith, c.requires.room.0.enough, c.pair_at-at.ensures, pair_at_below c.args.n c.args.start c.args.len c.requires.room.0.fits, c.well_formed.0.1)
+offset_bounds-words-at-2 c = omega (
+  arith,
+  c.requires.room.0.enough,
+  c.pair_at-at.ensures,
+  pair_at_below c.args.n c.args.start
+      c.args.len c.requires.room.0.fits,
+  c.well_formed.0.1,
+)
 
 -- src/lib.rt:97:14
 pub bounds-words-at-2 : goal.bounds-words-at-2
-bounds-words-at-2 c = omega (arith, c.requires.room.0.enough, c.pair_at-at.ensures, pair_at_below c.args.n c.args.start c.args.len c.requires.room.0.fits)
-
--- src/lib.rt:99:28
-pub overflow_add-start : goal.overflow_add-start
-overflow_add-start c = search rules
-
--- src/lib.rt:99:5
-pub put-requires : goal.put-requires
-put-requires c = search rules
-
--- src/lib.rt:89:1
-pub shape_of-rows : goal.shape_of-rows
-shape_of-rows c = search rules
-
--- src/lib.rt:89:1
-pub shape_of-cols : goal.shape_of-cols
-shape_of-cols c = search rules
+bounds-words-at-2 c = omega (
+  arith,
+  c.requires.room.0.enough,
+  c.pair_at-at.ensures,
+  pair_at_below
+      c.args.n c.args.start c.args.len c.requires.room.0.fits,
+)
 
 -- src/lib.rt:89:1
 pub returns : goal.returns

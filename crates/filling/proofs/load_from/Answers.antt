@@ -7,7 +7,13 @@ use Rattle.filling.proofs.load_from.Goals as goal
 
 -- src/lib.rt:180:5
 pub loop-start-init : goal.loop-start-init
-loop-start-init c = (omega (arith, c.requires.room.fits), omega arith, c.requires.rows_len, c.requires.columns, refl)
+loop-start-init c = (
+  omega (arith, c.requires.room.fits),
+  omega arith,
+  c.requires.rows_len,
+  c.requires.columns,
+  refl,
+)
 
 -- src/lib.rt:181:9
 pub overflow_sub-start : goal.overflow_sub-start

@@ -5,7 +5,8 @@ use Rattle.filling.proofs.load_start.Goals as goal
 
 -- src/lib.rt:164:5
 pub begin-requires : goal.begin-requires
-begin-requires c = record { room = c.requires.room; rows_len = c.requires.rows_len; columns = c.requires.columns }
+begin-requires c =
+    record { room = c.requires.room; rows_len = c.requires.rows_len; columns = c.requires.columns }
 
 -- src/lib.rt:166:5
 pub loop-len-init : goal.loop-len-init
@@ -32,7 +33,11 @@ pub load-requires : goal.load-requires
 load-requires c =
     let l = c.loop-len.invariant in record {
       room = (
-        record { few = c.requires.room.few; fits = c.loop-len-test.true; enough = c.requires.room.enough },
+        record {
+          few = c.requires.room.few;
+          fits = c.loop-len-test.true;
+          enough = c.requires.room.enough;
+        },
         omega
             (arith, l.0),
       );

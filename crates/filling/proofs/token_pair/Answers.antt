@@ -1,4 +1,3 @@
-use borrow.Author.Rules.{rules}
 use mathlib.Core.Path.{sym, subst, subst₂}
 use Prim.Native.Nat.{ℕ}
 use native.Mathlib.Omega.{arith}
@@ -11,17 +10,9 @@ use Rattle.links.proofs.ThinLaws.{formed_ruled, saturated_all}
 use Rattle.chart.proofs.SingleLaws.{leaf_found}
 use Rattle.filling.proofs.token_pair.Goals as goal
 
--- src/lib.rt:63:9
-pub first_marks-k-requires : goal.first_marks-k-requires
-first_marks-k-requires c = search rules
-
 -- src/lib.rt:64:9
 pub leaves-b-requires : goal.leaves-b-requires
 leaves-b-requires c = formed_ruled c.requires.formed
-
--- src/lib.rt:65:9
-pub link_rules-w-requires : goal.link_rules-w-requires
-link_rules-w-requires c = search rules
 
 -- src/lib.rt:66:9
 pub saturated-t-requires : goal.saturated-t-requires

@@ -7,7 +7,8 @@ use Rattle.firsts.specs.Rows.{TakesRows}
 use Rattle.firsts.proofs.fill_rows.Given as goal
 
 abbrev pub invariant-loop-a : goal.invariant-loop-a
-invariant-loop-a l = (l.a ≤ 64) × (length l.out ≡ length l.initial.out) × TakesRows l.columns l.a l.out
+invariant-loop-a l =
+    (l.a ≤ 64) × (length l.out ≡ length l.initial.out) × TakesRows l.columns l.a l.out
 
 abbrev pub decreases-loop-a : goal.decreases-loop-a
 decreases-loop-a l = 64 - l.a

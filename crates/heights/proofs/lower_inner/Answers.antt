@@ -60,7 +60,8 @@ loop-i-preserved c =
     )
 
 pub shape_of-hs : goal.shape_of-hs
-shape_of-hs c = (falls_room (lefts_formed c.requires.1) c.requires.0 c.loop-i.invariant.1.falls).long
+shape_of-hs c =
+    (falls_room (lefts_formed c.requires.1) c.requires.0 c.loop-i.invariant.1.falls).long
     ∙ sym c.requires.0.long
 
 pub returns : goal.returns

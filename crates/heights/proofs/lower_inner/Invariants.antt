@@ -7,7 +7,8 @@ use Rattle.heights.proofs.lower_inner.Given as goal
 
 abbrev pub invariant-loop-i : goal.invariant-loop-i
 invariant-loop-i l =
-    (l.i ≤ l.g.count) × HeightsTried (rules_of l.g) (by_marks l.k l.len) l.n l.start l.len (Inner l.len l.i) l.initial.hs l.hs l.fell
+    (l.i ≤ l.g.count) × HeightsTried (rules_of l.g) (by_marks l.k l.len) l.n l.start l.len
+    (Inner l.len l.i) l.initial.hs l.hs l.fell
 
 abbrev pub decreases-loop-i : goal.decreases-loop-i
 decreases-loop-i l = l.g.count - l.i

@@ -8,7 +8,8 @@ pub loop-g-init : goal.loop-g-init
 loop-g-init c = stays
 
 pub lower_all-more-requires : goal.lower_all-more-requires
-lower_all-more-requires c = (falls_room (lefts_formed c.requires.1) c.requires.0 c.loop-g.invariant, c.requires.1)
+lower_all-more-requires c =
+    (falls_room (lefts_formed c.requires.1) c.requires.0 c.loop-g.invariant, c.requires.1)
 
 pub shape_of-hs-then-not-more : goal.shape_of-hs-then-not-more
 shape_of-hs-then-not-more c = let lf = lefts_formed c.requires.1 in

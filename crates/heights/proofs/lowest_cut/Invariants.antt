@@ -9,7 +9,8 @@ use Rattle.heights.proofs.lowest_cut.Given as goal
 
 abbrev pub invariant-loop-left : goal.invariant-loop-left
 invariant-loop-left l = (1 ≤ l.left) × ((l.left ≤ l.len) ⊎ (l.left ≡ 1))
-    × Lowest (table l.hs l.n) (by_marks l.k l.len) l.start l.len (Clause.Binary l.b l.e l.m) 1 l.left l.best
+    × Lowest (table l.hs l.n) (by_marks l.k l.len) l.start l.len (Clause.Binary l.b l.e l.m) 1
+    l.left l.best
 
 abbrev pub decreases-loop-left : goal.decreases-loop-left
 decreases-loop-left l = l.len - l.left

@@ -8,7 +8,8 @@ use Rattle.heights.proofs.settle_all.Given as goal
 
 abbrev pub invariant-loop-len : goal.invariant-loop-len
 invariant-loop-len l =
-    (0 < l.len) × (l.len ≤ l.d.count + 1) × (l.n ≡ l.d.count) × Filled l.hs (rules_of l.g) (drafted l.d) 0 l.len
+    (0 < l.len) × (l.len ≤ l.d.count + 1) × (l.n ≡ l.d.count)
+    × Filled l.hs (rules_of l.g) (drafted l.d) 0 l.len
 
 abbrev pub decreases-loop-len : goal.decreases-loop-len
 decreases-loop-len l = l.d.count + 1 - l.len

@@ -42,7 +42,8 @@ bounds-x-a c =
     omega (arith, c.requires.1.left)
 
 -- what the rule gives
-gives : (c : Lts.After-given Tie.the-claims Reads.Pre Reads.Post) → Has (GivesByIndex c.args.w.index c.args.r.clause)
+gives : (c : Lts.After-given Tie.the-claims Reads.Pre Reads.Post)
+    → Has (GivesByIndex c.args.w.index c.args.r.clause)
     c.given-s.result
 gives c =
     let a = c.args in

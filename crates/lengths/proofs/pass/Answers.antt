@@ -18,21 +18,25 @@ use Rattle.lengths.proofs.pass.Goals as goal
 abbrev blank : Rule
 blank = record { left = 0; clause = Empty }
 
-array : (c : Lts.Start Tie.the-claims Reads.Pre Reads.Post goal.the-invariant-loop-p goal.the-decreases-loop-p) → length c.args.g.rules ≡ 128
+array : (c : Lts.Start Tie.the-claims Reads.Pre Reads.Post goal.the-invariant-loop-p
+    goal.the-decreases-loop-p) → length c.args.g.rules ≡ 128
 array c = c.well_formed.0.1.1.0.1.0.1
 
 -- the rule at the loop's place
-abbrev here : (c : Lts.In-loop Tie.the-claims Reads.Pre Reads.Post goal.the-invariant-loop-p goal.the-decreases-loop-p) → Rule
+abbrev here : (c : Lts.In-loop Tie.the-claims Reads.Pre Reads.Post goal.the-invariant-loop-p
+    goal.the-decreases-loop-p) → Rule
 here c = get_or c.args.g.rules c.loop-p.p blank
 
-rule : (c : Lts.In-loop Tie.the-claims Reads.Pre Reads.Post goal.the-invariant-loop-p goal.the-decreases-loop-p)
+rule : (c : Lts.In-loop Tie.the-claims Reads.Pre Reads.Post goal.the-invariant-loop-p
+    goal.the-decreases-loop-p)
     → get_elem? (rules_of c.args.g) c.loop-p.p
     ≡ some (get_or c.args.g.rules c.loop-p.p blank)
 rule c = rule_at c.args.g c.loop-p.p blank
     (array c.before.before) c.requires.0.few c.loop-p-test.true
 
 -- and its numbers are in range
-small : (c : Lts.In-loop Tie.the-claims Reads.Pre Reads.Post goal.the-invariant-loop-p goal.the-decreases-loop-p)
+small : (c : Lts.In-loop Tie.the-claims Reads.Pre Reads.Post goal.the-invariant-loop-p
+    goal.the-decreases-loop-p)
     → SmallRule (get_or c.args.g.rules c.loop-p.p blank)
 small c = small_here c.requires.0 _ (rule c)
 
@@ -61,8 +65,10 @@ loop-p-preserved-then-not-names c =
     let n = c.names.ensures.isnt c.if-not-names.true in (
       omega (arith, c.loop-p-test.true),
       passed_idle (here c.before.before.before.before) (rule c.before.before.before.before)
-          (c.requires.2.idle (here c.before.before.before.before) (member_at (rules_of c.args.g) l.p (rule c.before.before.before.before))
-          (λ k. n (named_more c.args.new l.w.grown (here c.before.before.before.before).clause k))) l.invariant.1,
+          (c.requires.2.idle (here c.before.before.before.before)
+          (member_at (rules_of c.args.g) l.p (rule c.before.before.before.before))
+          (λ k. n (named_more c.args.new l.w.grown (here c.before.before.before.before).clause k)))
+          l.invariant.1,
     )
 
 pub grow-w-requires : goal.grow-w-requires
@@ -75,7 +81,8 @@ loop-p-smaller c = omega (arith, c.loop-p-test.true)
 pub loop-p-preserved : goal.loop-p-preserved
 loop-p-preserved c = (
   omega (arith, c.loop-p-test.true),
-  passed_more (here c.before.before.before.before.before) c.requires.1.shaped (rule c.before.before.before.before.before) c.loop-p.invariant.1
+  passed_more (here c.before.before.before.before.before) c.requires.1.shaped
+      (rule c.before.before.before.before.before) c.loop-p.invariant.1
       c.grow-w.ensures,
 )
 

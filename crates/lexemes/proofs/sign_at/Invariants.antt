@@ -7,7 +7,8 @@ use Rattle.lexemes.specs.Lexemes.{signs, first_sign}
 use Rattle.lexemes.proofs.sign_at.Given as goal
 
 abbrev pub invariant-loop-i : goal.invariant-loop-i
-invariant-loop-i l = (l.i ≤ 14) × (first_sign signs (drop l.at l.s) ≡ first_sign (drop l.i signs) (drop l.at l.s))
+invariant-loop-i l =
+    (l.i ≤ 14) × (first_sign signs (drop l.at l.s) ≡ first_sign (drop l.i signs) (drop l.at l.s))
 
 abbrev pub decreases-loop-i : goal.decreases-loop-i
 decreases-loop-i l = 14 - l.i

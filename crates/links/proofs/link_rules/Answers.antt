@@ -22,18 +22,6 @@ loop-i-init c = (
   thin_none,
 )
 
--- src/lib.rt:44:17
-pub offset_bounds-g-i : goal.offset_bounds-g-i
-offset_bounds-g-i c = search rules
-
--- src/lib.rt:44:17
-pub bounds-g-i : goal.bounds-g-i
-bounds-g-i c = search rules
-
--- src/lib.rt:46:9
-pub overflow_add-i : goal.overflow_add-i
-overflow_add-i c = search rules
-
 -- src/lib.rt:47:12
 pub one_sided-requires : goal.one_sided-requires
 one_sided-requires c =
@@ -62,18 +50,6 @@ loop-i-preserved-then-one_sided c =
           (subst (λ (r : Rule). Idle c.args.one
           r.clause) (sym (get_or-take g.count g.rules l.i no_rule h)) d),
     )
-
--- src/lib.rt:50:9
-pub offset_bounds-rules-m : goal.offset_bounds-rules-m
-offset_bounds-rules-m c = search rules
-
--- src/lib.rt:50:9
-pub bounds-rules-m : goal.bounds-rules-m
-bounds-rules-m c = search rules
-
--- src/lib.rt:51:9
-pub overflow_add-m : goal.overflow_add-m
-overflow_add-m c = search rules
 
 -- src/lib.rt:43:5
 pub loop-i-smaller : goal.loop-i-smaller
@@ -107,7 +83,8 @@ returns c =
       ruled = record {
         few = omega (arith, c.requires.few, l.invariant.1);
         whole = length-take-le l.m l.rules (omega (arith, l.invariant.1, l.invariant.2));
-        small = thin_from SmallRule (λ j h. every_at SmallRule no_rule (rules_of g) c.requires.small j
+        small = thin_from SmallRule (λ j h. every_at SmallRule no_rule (rules_of g) c.requires.small
+            j
             (omega (arith, c.requires.whole))) u;
       };
       thinned = u;

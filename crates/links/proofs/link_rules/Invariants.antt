@@ -6,7 +6,8 @@ use Rattle.links.proofs.link_rules.Given as goal
 
 abbrev pub invariant-loop-i : goal.invariant-loop-i
 invariant-loop-i l =
-    (l.i ≤ l.g.count) × (l.m ≤ l.i) × (l.g.count ≤ length l.rules) × Thinned l.one (rules_of l.g) l.rules l.i l.m
+    (l.i ≤ l.g.count) × (l.m ≤ l.i) × (l.g.count ≤ length l.rules)
+    × Thinned l.one (rules_of l.g) l.rules l.i l.m
 
 abbrev pub decreases-loop-i : goal.decreases-loop-i
 decreases-loop-i l = l.g.count - l.i

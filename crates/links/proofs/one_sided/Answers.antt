@@ -1,22 +1,5 @@
-use borrow.Author.Rules.{rules}
 use Rattle.sets.proofs.Says.{holds, fails}
 use Rattle.links.proofs.one_sided.Goals as goal
-
--- src/lib.rt:23:26
-pub enum_told-1 : goal.enum_told-1
-enum_told-1 c = search rules
-
--- src/lib.rt:24:31
-pub enum_told-in-Atom : goal.enum_told-in-Atom
-enum_told-in-Atom c = search rules
-
--- src/lib.rt:25:32
-pub enum_told-in-Unary : goal.enum_told-in-Unary
-enum_told-in-Unary c = search rules
-
--- src/lib.rt:26:24
-pub enum_known-c : goal.enum_known-c
-enum_known-c c = search rules
 
 -- src/lib.rt:27:16
 pub has-requires : goal.has-requires

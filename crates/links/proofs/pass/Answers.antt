@@ -23,10 +23,6 @@ pub overflow_sub-i : goal.overflow_sub-i
 overflow_sub-i c = omega arith
 
 -- src/lib.rt:79:17
-pub offset_bounds-w-i : goal.offset_bounds-w-i
-offset_bounds-w-i c = search rules
-
--- src/lib.rt:79:17
 pub bounds-w-i : goal.bounds-w-i
 bounds-w-i c =
     omega (arith, c.requires.few, c.loop-i.invariant.0, c.loop-i-test.true)

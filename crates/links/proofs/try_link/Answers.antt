@@ -1,26 +1,9 @@
-use borrow.Author.Rules.{rules}
 use mathlib.Core.Path.{refl}
 use Rattle.links.proofs.try_link.Goals as goal
-
--- src/lib.rt:63:26
-pub enum_told-1 : goal.enum_told-1
-enum_told-1 c = search rules
-
--- src/lib.rt:64:31
-pub enum_told-in-Atom : goal.enum_told-in-Atom
-enum_told-in-Atom c = search rules
-
--- src/lib.rt:65:23
-pub enum_known-c : goal.enum_known-c
-enum_known-c c = search rules
 
 -- src/lib.rt:65:32
 pub try_unary-requires : goal.try_unary-requires
 try_unary-requires c = (c.requires.left, rw c.in-Unary.is at c.requires.clause)
-
--- src/lib.rt:66:24
-pub enum_known-c-in-Binary-1 : goal.enum_known-c-in-Binary-1
-enum_known-c-in-Binary-1 c = search rules
 
 -- src/lib.rt:66:36
 pub try_beside-requires : goal.try_beside-requires

@@ -12,7 +12,8 @@ use Rattle.mark_change.proofs.lay_at.Goals.{After-piece_start-k}
 use Rattle.mark_change.proofs.lay_at.Goals as goal
 
 pub line-c-requires : goal.line-c-requires
-line-c-requires c = omega (arith, c.piece_start-at.ensures, start_in c.args.s.now c.args.p c.requires.0)
+line-c-requires c =
+    omega (arith, c.piece_start-at.ensures, start_in c.args.s.now c.args.p c.requires.0)
 
 pub slice_bounds-line-count : goal.slice_bounds-line-count
 slice_bounds-line-count c = line_starts c.args.s.now c.args.p c.requires.0 c.piece_start-at.ensures
@@ -44,7 +45,8 @@ piece_start-k-requires c =
     c.piece_start-at.ensures c.line-c.ensures) c.requires.1
 
 -- where the lay begins in its line
-inner : (c : After-piece_start-k) → c.piece_start-k.result ≡ piece_start (pieces 32 (line_of c.args.s.now c.args.p)) 4
+inner : (c : After-piece_start-k)
+    → c.piece_start-k.result ≡ piece_start (pieces 32 (line_of c.args.s.now c.args.p)) 4
 inner c =
     c.piece_start-k.ensures ∙ ap (λ (x : List ℕ). piece_start (pieces 32 x) 4)
     (line_bytes c.args.s.now c.args.p c.requires.0

@@ -14,13 +14,16 @@ pub overflow_add-at : goal.overflow_add-at
 overflow_add-at c = omega (arith, walking_in c.loop-left.invariant c.loop-left-test.true)
 
 pub loop-left-smaller-then-s-at : goal.loop-left-smaller-then-s-at
-loop-left-smaller-then-s-at c = omega (arith, walking_in c.loop-left.invariant c.loop-left-test.true)
+loop-left-smaller-then-s-at c =
+    omega (arith, walking_in c.loop-left.invariant c.loop-left-test.true)
 
 pub loop-left-preserved-then-s-at : goal.loop-left-preserved-then-s-at
-loop-left-preserved-then-s-at c = walking_hit c.loop-left.invariant c.loop-left-test.true c.if-s-at.true
+loop-left-preserved-then-s-at c =
+    walking_hit c.loop-left.invariant c.loop-left-test.true c.if-s-at.true
 
 pub overflow_add-at-in-loop-left : goal.overflow_add-at-in-loop-left
-overflow_add-at-in-loop-left c = omega (arith, walking_in c.loop-left.invariant c.loop-left-test.true)
+overflow_add-at-in-loop-left c =
+    omega (arith, walking_in c.loop-left.invariant c.loop-left-test.true)
 
 pub loop-left-smaller : goal.loop-left-smaller
 loop-left-smaller c = omega (arith, walking_in c.loop-left.invariant c.loop-left-test.true)

@@ -11,7 +11,13 @@ pub overflow_sub-k : goal.overflow_sub-k
 overflow_sub-k c = omega (arith, c.loop-k-test.true)
 
 pub bounds-r-k : goal.bounds-r-k
-bounds-r-k c = omega (arith, c.requires.spread.0.few, c.requires.spread.1, c.loop-k.invariant.fits, c.loop-k-test.true)
+bounds-r-k c = omega (
+  arith,
+  c.requires.spread.0.few,
+  c.requires.spread.1,
+  c.loop-k.invariant.fits,
+  c.loop-k-test.true,
+)
 
 pub columns-requires : goal.columns-requires
 columns-requires c = ended_at c.requires.spread.0 _

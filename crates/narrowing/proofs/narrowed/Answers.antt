@@ -38,4 +38,5 @@ overflow_add-x c =
 
 pub returns : goal.returns
 returns c =
-    narrows c.args.r c.args.t c.args.c c.requires.spread.0 c.requires.spread.1 c.requires.c_bound refl
+    narrows c.args.r c.args.t c.args.c c.requires.spread.0 c.requires.spread.1 c.requires.c_bound
+    refl

@@ -8,7 +8,12 @@ enter_all-n-requires c =
     let r = c.requires in
     let l = rw c.frame_at-f.ensures at
     c.list_evens-end.ensures in record {
-      search_words_in_bounds = (omega (arith, l.size, r.search_words_in_bounds.0), omega (arith, r.search_words_in_bounds.2), r.search_words_in_bounds.1);
+      search_words_in_bounds = (
+        omega (arith, l.size, r.search_words_in_bounds.0),
+        omega
+            (arith, r.search_words_in_bounds.2),
+        r.search_words_in_bounds.1,
+      );
       lists_evens = (listed l, r.le_free.0);
     }
 

@@ -11,7 +11,12 @@ pub enter-m-requires : goal.enter-m-requires
 enter-m-requires c =
     let v = c.loop-s.invariant.0 in
     let r = c.requires in record {
-      search_words_in_bounds = (omega (arith, v.size, r.search_words_in_bounds.0), omega (arith, v.high, r.search_words_in_bounds.1), omega (arith, r.search_words_in_bounds.2));
+      search_words_in_bounds = (
+        omega (arith, v.size, r.search_words_in_bounds.0),
+        omega
+            (arith, v.high, r.search_words_in_bounds.1),
+        omega (arith, r.search_words_in_bounds.2),
+      );
       lists_evens = (
         list_of _ _ (omega arith) (omega arith)
             (lists_same (λ i h k. v.behind i (omega (arith, r.lists_evens.1))) r.lists_evens.0),

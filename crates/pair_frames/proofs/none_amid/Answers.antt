@@ -31,7 +31,8 @@ pub returns : goal.returns
 returns c =
     holds
     (none_of
-    (c.amid.ensures.isnt c.if-amid.false) (c.amid-2.ensures.isnt c.if-amid-2.false) (c.amid-3.ensures.isnt c.if-amid-3.false) (c.amid-4.ensures.isnt c.if-amid-4.false)
+    (c.amid.ensures.isnt c.if-amid.false) (c.amid-2.ensures.isnt c.if-amid-2.false)
+    (c.amid-3.ensures.isnt c.if-amid-3.false) (c.amid-4.ensures.isnt c.if-amid-4.false)
     (c.amid-5.ensures.isnt
     c.if-amid-5.false)
     (c.amid-6.ensures.isnt c.if-amid-6.false))

@@ -3,7 +3,8 @@ use Rattle.pair_offsets.proofs.SayLaws.{same_one, same_off, same_two}
 use Rattle.pair_offsets.proofs.same.Goals as goal
 
 pub returns-then-a-eq0 : goal.returns-then-a-eq0
-returns-then-a-eq0 c = same_one _ _ _ _ _ (omega (arith, c.if-p-q.true)) (omega (arith, c.if-a-eq0.true))
+returns-then-a-eq0 c =
+    same_one _ _ _ _ _ (omega (arith, c.if-p-q.true)) (omega (arith, c.if-a-eq0.true))
 
 pub returns-then-p-q : goal.returns-then-p-q
 returns-then-p-q c =

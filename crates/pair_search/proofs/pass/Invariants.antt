@@ -5,7 +5,8 @@ use Rattle.pair_search.proofs.pass.Given as goal
 
 abbrev pub invariant-loop-k : goal.invariant-loop-k
 invariant-loop-k l =
-    Ran (λ g. NodesOf g l.nodes) (LastRows l.nodes l.n l.k) l.initial.words l.words l.still × (l.k ≤ 384)
+    Ran (λ g. NodesOf g l.nodes) (LastRows l.nodes l.n l.k) l.initial.words l.words l.still
+    × (l.k ≤ 384)
 
 abbrev pub decreases-loop-k : goal.decreases-loop-k
 decreases-loop-k l = 384 - l.k

@@ -9,7 +9,8 @@ pub tokens_beside-requires : goal.tokens_beside-requires
 tokens_beside-requires c = c.tokens_at-a.ensures
 
 pub returns-then-tokens_beside-eq0 : goal.returns-then-tokens_beside-eq0
-returns-then-tokens_beside-eq0 c = none_at _ _ _ _ _ (λ s. s.cut) c.tokens_beside.ensures c.if-tokens_beside-eq0.true
+returns-then-tokens_beside-eq0 c =
+    none_at _ _ _ _ _ (λ s. s.cut) c.tokens_beside.ensures c.if-tokens_beside-eq0.true
 
 pub tokens_beside-b-requires : goal.tokens_beside-b-requires
 tokens_beside-b-requires c = c.tokens_at-a.ensures
@@ -21,7 +22,8 @@ pub tokens_beside-requires-2 : goal.tokens_beside-requires-2
 tokens_beside-requires-2 c = c.tokens_beside-b.ensures
 
 pub returns-then-tokens_beside-eq0-2 : goal.returns-then-tokens_beside-eq0-2
-returns-then-tokens_beside-eq0-2 c = none_at _ _ _ _ _ (λ s. s.split) c.tokens_beside-2.ensures c.if-tokens_beside-eq0-2.true
+returns-then-tokens_beside-eq0-2 c =
+    none_at _ _ _ _ _ (λ s. s.split) c.tokens_beside-2.ensures c.if-tokens_beside-eq0-2.true
 
 pub returns-then-c-eq0 : goal.returns-then-c-eq0
 returns-then-c-eq0 c = none_at _ _ _ _ _ (λ s. s.stop) c.tokens_at-c.ensures c.if-c-eq0.true

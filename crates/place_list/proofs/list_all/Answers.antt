@@ -8,7 +8,12 @@ pub loop-len-init : goal.loop-len-init
 loop-len-init c = (omega arith, lists_none (entry 0 0 c.args.s.count) c.requires.count_le_at)
 
 pub list_row-k-requires : goal.list_row-k-requires
-list_row-k-requires c = let l = c.loop-len in record { scene = c.requires.scene; len_nonzero = (c.loop-len-test.true, l.invariant.0); count_le_at = l.invariant.1.few }
+list_row-k-requires c = let l = c.loop-len in
+    record {
+      scene = c.requires.scene;
+      len_nonzero = (c.loop-len-test.true, l.invariant.0);
+      count_le_at = l.invariant.1.few;
+    }
 
 pub overflow_sub-len : goal.overflow_sub-len
 overflow_sub-len c = omega (arith, c.loop-len-test.true)
@@ -21,7 +26,12 @@ loop-len-preserved c = let l = c.loop-len in
     (omega (arith, l.invariant.0), lists_then l.invariant.1 c.list_row-k.ensures)
 
 pub list_span-requires : goal.list_span-requires
-list_span-requires c = let l = c.loop-len in record { scene = c.requires.scene; len_bound = (omega arith, refl); count_le_at = l.invariant.1.few }
+list_span-requires c = let l = c.loop-len in
+    record {
+      scene = c.requires.scene;
+      len_bound = (omega arith, refl);
+      count_le_at = l.invariant.1.few;
+    }
 
 pub shape_of-list : goal.shape_of-list
 shape_of-list c = c.list_span.ensures.long

@@ -6,7 +6,11 @@ use Rattle.grammar.specs.Sentences.{spelled}
 use Rattle.place_list.proofs.list_row.Goals as goal
 
 pub loop-start-init : goal.loop-start-init
-loop-start-init c = (omega (arith, c.requires.len_nonzero), lists_none (entry 0 0 c.args.len) c.requires.count_le_at)
+loop-start-init c = (
+  omega (arith, c.requires.len_nonzero),
+  lists_none (entry 0 0 c.args.len)
+      c.requires.count_le_at,
+)
 
 pub overflow_add-start : goal.overflow_add-start
 overflow_add-start c = omega (

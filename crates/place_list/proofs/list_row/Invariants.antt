@@ -8,7 +8,8 @@ use Rattle.place_list.proofs.list_row.Given as goal
 
 abbrev pub invariant-loop-start : goal.invariant-loop-start
 invariant-loop-start l = (l.start + l.len ≤ l.s.count + 1)
-    × Lists (rules_of l.g) (spelled l.s) l.initial.list l.list l.initial.k l.k (entry 0 0 l.len) (entry 0 l.start l.len)
+    × Lists (rules_of l.g) (spelled l.s) l.initial.list l.list l.initial.k l.k (entry 0 0 l.len)
+    (entry 0 l.start l.len)
 
 abbrev pub decreases-loop-start : goal.decreases-loop-start
 decreases-loop-start l = l.s.count + 1 - l.start

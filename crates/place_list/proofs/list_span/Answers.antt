@@ -54,7 +54,11 @@ offset_bounds-parts-p c =
 
 pub bounds-parts-p : goal.bounds-parts-p
 bounds-parts-p c =
-    omega (arith, room c.requires.scene c.args.start c.args.len c.requires.len_bound.0, c.pair_at-p.ensures)
+    omega (
+      arith,
+      room c.requires.scene c.args.start c.args.len c.requires.len_bound.0,
+      c.pair_at-p.ensures,
+    )
 
 pub loop-a-init : goal.loop-a-init
 loop-a-init c = (omega arith, lists_none (entry 0 c.args.start c.args.len) c.requires.count_le_at)
@@ -66,7 +70,8 @@ loop-a-preserved-then-not-has c =
       omega (arith, c.loop-a-test.true),
       lists_then l.invariant.1
           (lists_skip l.a c.args.start c.args.len l.invariant.1.few
-          (no_place c.args.g c.args.s c.args.parts.now c.requires.scene c.args.start c.args.len c.requires.len_bound.0 c.requires.len_bound.1 c.pair_at-p.result
+          (no_place c.args.g c.args.s c.args.parts.now c.requires.scene c.args.start c.args.len
+          c.requires.len_bound.0 c.requires.len_bound.1 c.pair_at-p.result
           c.pair_at-p.ensures l.a n)),
     )
 
@@ -75,7 +80,8 @@ list_one-k-requires c =
     let l = c.loop-a in
     let b = c.has.ensures.is c.if-not-has.false in record {
       place = (
-        is_place c.args.g c.args.s c.args.parts.now c.requires.scene c.args.start c.args.len c.requires.len_bound.0 c.requires.len_bound.1 c.pair_at-p.result
+        is_place c.args.g c.args.s c.args.parts.now c.requires.scene c.args.start c.args.len
+            c.requires.len_bound.0 c.requires.len_bound.1 c.pair_at-p.result
             c.pair_at-p.ensures l.a b,
         omega (arith, c.requires.len_bound.0, c.requires.scene.positioned.few),
       );

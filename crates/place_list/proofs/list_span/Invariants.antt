@@ -7,7 +7,8 @@ use Rattle.place_list.proofs.list_span.Given as goal
 
 abbrev pub invariant-loop-a : goal.invariant-loop-a
 invariant-loop-a l =
-    (l.a ≤ 64) × Lists (rules_of l.g) (spelled l.s) l.initial.list l.list l.initial.k l.k (entry 0 l.start l.len) (entry l.a l.start l.len)
+    (l.a ≤ 64) × Lists (rules_of l.g) (spelled l.s) l.initial.list l.list l.initial.k l.k
+    (entry 0 l.start l.len) (entry l.a l.start l.len)
 
 abbrev pub decreases-loop-a : goal.decreases-loop-a
 decreases-loop-a l = 64 - l.a

@@ -22,4 +22,5 @@ put_byte-requires-2 t c = omega (arith, decimal_longer c.args.v (search rules))
 
 pub returns : goal.returns
 returns t c =
-    rw (decimal_more c.args.v (search rules)) (wrote_then c.put_number-next.ensures c.put_byte-2.ensures)
+    rw (decimal_more c.args.v (search rules))
+    (wrote_then c.put_number-next.ensures c.put_byte-2.ensures)

@@ -5,7 +5,8 @@ use Rattle.printing.specs.Printing.{Wrote}
 use Rattle.printing.proofs.put_bytes.Given as goal
 
 abbrev pub invariant-loop-i : goal.invariant-loop-i
-invariant-loop-i l = (l.i ≤ length l.bytes) × Wrote l.initial.out l.out l.at (take l.i l.bytes) (l.at + l.i)
+invariant-loop-i l =
+    (l.i ≤ length l.bytes) × Wrote l.initial.out l.out l.at (take l.i l.bytes) (l.at + l.i)
 
 abbrev pub decreases-loop-i : goal.decreases-loop-i
 decreases-loop-i l = length l.bytes - l.i

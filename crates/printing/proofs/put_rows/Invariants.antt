@@ -7,7 +7,8 @@ use Rattle.printing.proofs.put_rows.Given as goal
 
 abbrev pub invariant-loop-i : goal.invariant-loop-i
 invariant-loop-i l =
-    (l.i ≤ l.count) × (l.next ≤ l.at + 26 * l.i) × Wrote l.initial.out l.out l.at (row_lines l.tree (take (4 * l.i) l.rows)) l.next
+    (l.i ≤ l.count) × (l.next ≤ l.at + 26 * l.i) × Wrote l.initial.out l.out l.at
+    (row_lines l.tree (take (4 * l.i) l.rows)) l.next
 
 abbrev pub decreases-loop-i : goal.decreases-loop-i
 decreases-loop-i l = l.count - l.i

@@ -134,7 +134,14 @@ try_terminals-requires t c =
     let r = c.try_terminal.ensures.terminal_tried in (
       omega (arith, far, c.requires.n_bound.1),
       (
-        (c.requires.n_bound.0, low, omega (arith, h), m.1, c.requires.n_bound.4, c.requires.n_bound.5),
+        (
+          c.requires.n_bound.0,
+          low,
+          omega (arith, h),
+          m.1,
+          c.requires.n_bound.4,
+          c.requires.n_bound.5,
+        ),
         (
           c.requires.formed,
           (

@@ -6,7 +6,13 @@ use native.Mathlib.Omega.{arith}
 use Rattle.pruning.proofs.has_two.Goals as goal
 
 pub begin-requires : goal.begin-requires
-begin-requires c = record { n_bound = (c.requires.n_bound.0, omega arith, c.requires.n_bound.1); formed = c.requires.formed; n_in_bounds = c.requires.n_in_bounds; tabled = c.requires.tabled; mirrored = c.requires.mirrored }
+begin-requires c = record {
+  n_bound = (c.requires.n_bound.0, omega arith, c.requires.n_bound.1);
+  formed = c.requires.formed;
+  n_in_bounds = c.requires.n_in_bounds;
+  tabled = c.requires.tabled;
+  mirrored = c.requires.mirrored;
+}
 
 pub returns : goal.returns
 returns c =

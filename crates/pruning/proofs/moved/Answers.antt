@@ -14,7 +14,11 @@ steps n k pos h = (div-lt_iff_lt-mul pos).1 h
 pub overflow_cast-step : goal.overflow_cast-step
 overflow_cast-step c = record {
   fits =
-      omega (arith, steps c.args.n c.args.k (omega (arith, c.requires.n_bound)) c.requires.n_bound.2);
+      omega (
+        arith,
+        steps c.args.n c.args.k (omega (arith, c.requires.n_bound))
+            c.requires.n_bound.2,
+      );
 }
 
 pub overflow_add-column : goal.overflow_add-column

@@ -25,7 +25,11 @@ no_two-requires c =
     let d = c.draft-d in
     let e = d.ensures in
     let q = c.try_positions.ensures.positions_searched in record {
-      count_bound = (omega (arith, e.1, c.requires.n_bound.0), omega (arith, e.1, e.2, c.requires.n_bound.1));
+      count_bound = (
+        omega (arith, e.1, c.requires.n_bound.0),
+        omega
+            (arith, e.1, e.2, c.requires.n_bound.1),
+      );
       count_in_bounds = rw e.1 (omega (arith, q.past.long, c.requires.n_in_bounds));
       formed = c.requires.formed;
       ready = ready_again (wide d.result) c.requires.n_bound.1 (cells_size a.c 0 a.n)
@@ -38,7 +42,8 @@ pub returns : goal.returns
 returns c =
     let d = c.draft-d in
     let e = d.ensures in record {
-      all_positions_searched = spent (wide d.result) c.if-try_positions.false e.0 e.1 e.2 c.try_positions.ensures.positions_searched
+      all_positions_searched = spent (wide d.result) c.if-try_positions.false e.0 e.1 e.2
+          c.try_positions.ensures.positions_searched
           c.no_two.ensures.settles;
       mirrored_2 = rw e.1 at
           c.no_two.ensures.mirrored_2;

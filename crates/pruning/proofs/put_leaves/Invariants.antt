@@ -10,7 +10,8 @@ use Rattle.pruning.proofs.put_leaves.Given as goal
 
 abbrev pub invariant-loop-i : goal.invariant-loop-i
 invariant-loop-i l =
-    LeavesPutTo l.table (cells l.c 0 l.n) l.n l.b l.i l.initial.words l.words × Mirrored (rules_of l.g) l.n l.words l.cuts
+    LeavesPutTo l.table (cells l.c 0 l.n) l.n l.b l.i l.initial.words l.words
+    × Mirrored (rules_of l.g) l.n l.words l.cuts
     × (length l.cuts ≡ length l.initial.cuts)
 
 abbrev pub decreases-loop-i : goal.decreases-loop-i

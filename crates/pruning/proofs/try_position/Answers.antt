@@ -18,7 +18,8 @@ returns-then-not-rises c =
 pub returns-then-earlier_twin : goal.returns-then-earlier_twin
 returns-then-earlier_twin c =
     let a = c.args in record {
-      position_tried = tried_out (λ s. refuted_earlier_twin (cells_size a.c 0 a.n) c.requires.n_bound.1
+      position_tried =
+          tried_out (λ s. refuted_earlier_twin (cells_size a.c 0 a.n) c.requires.n_bound.1
           (c.earlier_twin.ensures c.if-earlier_twin.true)) c.requires.positions_filled;
       mirrored_2 = c.requires.mirrored;
     }
@@ -28,7 +29,11 @@ no_two-requires c =
     let a = c.args in
     let d = c.draft-d in
     let e = d.ensures in record {
-      count_bound = (omega (arith, e.1, c.requires.n_bound.0), omega (arith, e.1, e.2, c.requires.n_bound.1));
+      count_bound = (
+        omega (arith, e.1, c.requires.n_bound.0),
+        omega
+            (arith, e.1, e.2, c.requires.n_bound.1),
+      );
       count_in_bounds = rw e.1 c.requires.n_in_bounds;
       formed = c.requires.formed;
       ready = ready_draft (wide d.result) c.requires.n_bound.1 (cells_size a.c 0 a.n) e.0 e.1
@@ -41,7 +46,8 @@ returns c =
     let a = c.args in
     let d = c.draft-d in
     let e = d.ensures in record {
-      position_tried = tried_settled (wide d.result) c.requires.n_bound.1 (cells_size a.c 0 a.n) e.0 e.1
+      position_tried =
+          tried_settled (wide d.result) c.requires.n_bound.1 (cells_size a.c 0 a.n) e.0 e.1
           e.2
           c.requires.positions_filled c.no_two.ensures.settles;
       mirrored_2 = rw e.1 at

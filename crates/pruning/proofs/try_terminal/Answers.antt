@@ -6,7 +6,11 @@ use Rattle.refilling.specs.Short.{wide}
 use Rattle.pruning.proofs.try_terminal.Goals as goal
 
 pub put_leaf-requires : goal.put_leaf-requires
-put_leaf-requires c = record { n_bound = (omega (arith, c.requires.n_bound.0), c.requires.n_bound.2); n_in_bounds = c.requires.n_in_bounds; mirrored = c.requires.mirrored }
+put_leaf-requires c = record {
+  n_bound = (omega (arith, c.requires.n_bound.0), c.requires.n_bound.2);
+  n_in_bounds = c.requires.n_in_bounds;
+  mirrored = c.requires.mirrored;
+}
 
 pub no_two-requires : goal.no_two-requires
 no_two-requires c =
@@ -14,7 +18,8 @@ no_two-requires c =
     let d = c.draft-d in
     let e = d.ensures in
     let w = c.put_leaf.ensures.wrote_pair in record {
-      count_bound = (omega (arith, e.1, c.requires.n_bound.0), omega (arith, e.1, e.2, c.requires.n_bound));
+      count_bound =
+          (omega (arith, e.1, c.requires.n_bound.0), omega (arith, e.1, e.2, c.requires.n_bound));
       count_in_bounds = rw e.1 (omega (arith, w.kept.long, c.requires.n_in_bounds));
       formed = c.requires.formed;
       ready = ready_loose c.requires.n_bound.1 c.requires.n_bound.2 (wide d.result)
@@ -31,7 +36,8 @@ returns c =
     let e = d.ensures in
     let w = c.put_leaf.ensures.wrote_pair in
     let t = c.requires.tabled in record {
-      terminal_tried = try_terminal_settled c.requires.n_bound.1 c.requires.n_bound.2 (wide d.result)
+      terminal_tried =
+          try_terminal_settled c.requires.n_bound.1 c.requires.n_bound.2 (wide d.result)
           (cells_size a.c 0 a.n)
           e.0
           e.1 e.2 t.2 w (t.0.leaf a.x t.1) c.requires.terminal_open

@@ -7,7 +7,13 @@ use Rattle.pruning.proofs.RefutingLaws.{twinned_all}
 use Rattle.pruning.proofs.twinned.Goals as goal
 
 pub begin-requires : goal.begin-requires
-begin-requires c = record { n_bound = (c.requires.n_bound.0, c.requires.n_bound.1, c.requires.n_bound.2); formed = c.requires.formed; n_in_bounds = c.requires.n_in_bounds; tabled = c.requires.tabled; mirrored = c.requires.mirrored }
+begin-requires c = record {
+  n_bound = (c.requires.n_bound.0, c.requires.n_bound.1, c.requires.n_bound.2);
+  formed = c.requires.formed;
+  n_in_bounds = c.requires.n_in_bounds;
+  tabled = c.requires.tabled;
+  mirrored = c.requires.mirrored;
+}
 
 pub try_terminals-requires : goal.try_terminals-requires
 try_terminals-requires c =

@@ -23,7 +23,8 @@ marks : (r : RangeSentence) (s l : ℕ) (k m : SpanMarks) → length (ranges_of 
     → RangeCarried (ranges_of r) s (l + 1) m
 marks r s l k m w z h i e =
     stretch_more (ranges_of r) s l k m z (omega (arith, h, w)) i
-    (subst₃ (λ (x y v : RangeToken). Stretched k x y v l m) (sym (range_read r s (omega (arith, h))))
+    (subst₃ (λ (x y v : RangeToken). Stretched k x y v l m)
+    (sym (range_read r s (omega (arith, h))))
     (sym (range_read r (s + l - 1) (omega (arith, h, z)))) (sym (range_read r (s + l) h)) e)
 
 pub bounds-r-start : goal.bounds-r-start
@@ -108,7 +109,8 @@ pub loop-len-preserved-then-start-len : goal.loop-len-preserved-then-start-len
 loop-len-preserved-then-start-len c = let i = c.loop-len.invariant in (
   omega arith,
   omega (arith, c.loop-len-test.true),
-  (marks c.args.r c.args.start c.loop-len.len _ _ c.requires.count_fits.0.whole i.0 c.loop-len-test.true i.2 c.stretched-k.ensures),
+  (marks c.args.r c.args.start c.loop-len.len _ _ c.requires.count_fits.0.whole i.0
+      c.loop-len-test.true i.2 c.stretched-k.ensures),
   i.3,
   i.4,
   from_pass (omega arith) i.5,
@@ -158,7 +160,8 @@ loop-len-preserved c =
     let far : c.args.from < s + (l + 1) =
     omega arith in
     let long : 2 ≤ l + 1 = omega (arith, i.0) in
-    let m = marks c.args.r c.args.start c.loop-len.len _ _ c.requires.count_fits.0.whole i.0 c.loop-len-test.true i.2 c.stretched-k.ensures in
+    let m = marks c.args.r c.args.start c.loop-len.len _ _ c.requires.count_fits.0.whole i.0
+    c.loop-len-test.true i.2 c.stretched-k.ensures in
     let q = stretch_marked (ranges_of r) s (l + 1) k m in (
       omega arith,
       h,

@@ -11,4 +11,5 @@ returns-then-yes c = record {
 }
 
 pub returns-else-yes : goal.returns-else-yes
-returns-else-yes c = record { is = λ e. absurd (true_not_false (sym e ∙ c.if-yes.false)); isnt = λ e. refl }
+returns-else-yes c =
+    record { is = λ e. absurd (true_not_false (sym e ∙ c.if-yes.false)); isnt = λ e. refl }

@@ -12,7 +12,8 @@ use mathlib.Core.List.{List}
 use Rattle.range_sheets.proofs.finished.Goals as goal
 
 pub returns-then-count-gt65536 : goal.returns-then-count-gt65536
-returns-then-count-gt65536 c = subst (λ (x : Reading (List RangeToken)). RangesRead c.refuse_ranges.result x)
+returns-then-count-gt65536 c =
+    subst (λ (x : Reading (List RangeToken)). RangesRead c.refuse_ranges.result x)
     (sym (counted_many (ranges_of (record {
       tokens = c.args.tokens;
       count = c.args.n;

@@ -18,7 +18,8 @@ use Rattle.range_sheets.specs.declared.RangeLine.TheVariants.{Form}
 use Rattle.range_sheets.specs.RangeLines.{range_fields, range_of, after_range_low, after_range_high}
 use Rattle.range_sheets.proofs.range_line.Goals as goal
 
--- what is left to say after the three numbers and after the fourth; the cursor is still in the sheet
+-- what is left to say after the three numbers and after the fourth; the cursor is still in the
+-- sheet
 module _ (s : List ℕ) (a : Cursor) (t l k : ℕ) (d : Cursor)
     (three : ThreeTold s a (ThreeNumbers.Are t l k d)) (whole : a.end ≤ length s) where
   stage : range_fields (fields_left s a) ≡ after_range_low t l k (fields_left s d)
@@ -32,7 +33,8 @@ module _ (s : List ℕ) (a : Cursor) (t l k : ℕ) (d : Cursor)
   no_fourth e = sym (stage ∙ number_bad Form (after_range_high t l k) s d e)
 
   module _ (h : ℕ) (e : Cursor)
-      (fourth : NumberField.Is h e ≡ number_field_of (read_field numeral_of d (fields_left s d))) where
+      (fourth : NumberField.Is h e ≡ number_field_of
+      (read_field numeral_of d (fields_left s d))) where
     good : (after_range_low t l k (fields_left s d) ≡ after_range_high t l k h (fields_left s e))
         × (e.end ≡ d.end)
     good = number_good Form (after_range_high t l k) s d h e fourth

@@ -19,7 +19,8 @@ range_step-requires c =
     (let i = line_in _ _ c.loop-t.invariant.low _ c.line-c.ensures in i)
 
 pub offset_bounds-tokens-n : goal.offset_bounds-tokens-n
-offset_bounds-tokens-n c = omega (arith, (took c.loop-t.invariant c.line-c.ensures c.in-Next.ensures).0)
+offset_bounds-tokens-n c =
+    omega (arith, (took c.loop-t.invariant c.line-c.ensures c.in-Next.ensures).0)
 
 pub bounds-tokens-n : goal.bounds-tokens-n
 bounds-tokens-n c = (took c.loop-t.invariant c.line-c.ensures c.in-Next.ensures).0

@@ -19,11 +19,13 @@ use Rattle.reachable_rules.proofs.pick.Reads
 use Rattle.reachable_rules.proofs.pick.Tie
 use Rattle.reachable_rules.proofs.pick.Goals as goal
 
-array : (c : Lts.Start Tie.the-claims Reads.Pre Reads.Post goal.the-invariant-loop-i goal.the-decreases-loop-i) → length c.args.g.rules ≡ 128
+array : (c : Lts.Start Tie.the-claims Reads.Pre Reads.Post goal.the-invariant-loop-i
+    goal.the-decreases-loop-i) → length c.args.g.rules ≡ 128
 array c = c.well_formed.0.1.1.0.1.0.1
 
 -- the rule at the loop's place
-read : (c : Lts.In-loop Tie.the-claims Reads.Pre Reads.Post goal.the-invariant-loop-i goal.the-decreases-loop-i)
+read : (c : Lts.In-loop Tie.the-claims Reads.Pre Reads.Post goal.the-invariant-loop-i
+    goal.the-decreases-loop-i)
     → get_or (rules_of c.args.g) c.loop-i.i no_rule
     ≡ get_or c.args.g.rules c.loop-i.i no_rule
 read c = let g = c.args.g in
@@ -40,7 +42,8 @@ bounds-g-i c = omega (arith, c.requires.few)
 
 pub has-requires : goal.has-requires
 has-requires c =
-    (small_at c.requires _ (rule_at c.args.g c.loop-i.i no_rule (array c.before.before.before.before) c.requires.few
+    (small_at c.requires _ (rule_at c.args.g c.loop-i.i no_rule
+    (array c.before.before.before.before) c.requires.few
     c.loop-i-test.true)).left
 
 pub loop-i-preserved-then-not-has : goal.loop-i-preserved-then-not-has

@@ -8,7 +8,8 @@ use Rattle.reachable_rules.proofs.pick.Given as goal
 
 abbrev pub invariant-loop-i : goal.invariant-loop-i
 invariant-loop-i l =
-    (l.i ≤ l.g.count) × (l.m ≤ l.i) × (length l.rules ≡ 128) × Picked (rules_of l.g) l.set l.i (take l.m l.rules)
+    (l.i ≤ l.g.count) × (l.m ≤ l.i) × (length l.rules ≡ 128)
+    × Picked (rules_of l.g) l.set l.i (take l.m l.rules)
 
 abbrev pub decreases-loop-i : goal.decreases-loop-i
 decreases-loop-i l = l.g.count - l.i

@@ -10,7 +10,8 @@ returns c = let a = c.args in
     let u = c.requires.formed.1 in
     let m = c.requires.mirrored.mirror in
     let fit = c.requires.n_bound.1.fits in record {
-      cut_joins = found_by (omega (arith, c.requires.n_bound.0)) fit c.requires.formed.0.small (a.n + 1) 0 (omega arith)
+      cut_joins = found_by (omega (arith, c.requires.n_bound.0)) fit c.requires.formed.0.small
+          (a.n + 1) 0 (omega arith)
           (omega arith)
           (rows_say (omega (arith, c.requires.n_bound.2)) m) (column_says fit m) u.begins
           u.chains c.find-t.ensures

@@ -18,7 +18,8 @@ use Rattle.refilling.proofs.fill_start.Tie
 use Rattle.refilling.proofs.fill_start.Goals as goal
 
 -- the marks with the next token
-marks : (c : Lts.After-with_next Tie.the-claims Reads.Pre Reads.Post goal.the-invariant-loop-len goal.the-decreases-loop-len Tie.handed_clauses)
+marks : (c : Lts.After-with_next Tie.the-claims Reads.Pre Reads.Post goal.the-invariant-loop-len
+    goal.the-decreases-loop-len Tie.handed_clauses)
     → let a =
     c.args in
     Carried (half (wide a.d)) a.start (c.loop-len.len + 1)
@@ -105,8 +106,10 @@ loop-len-preserved c =
     omega (arith, c.if-start-len.false) in
     let ws = c.close.new.words in
     let j = cut_joined b.words ws g h n a.start len c.with_next-k.result
-    c.requires.formed.0.distinct (omega (arith, c.requires.whole.0.long, c.requires.whole.0.inner)) fit
-    long (carried_all _ _ _ _ (marks c.before.before.before.before.before.before.before.before.before))
+    c.requires.formed.0.distinct (omega (arith, c.requires.whole.0.long, c.requires.whole.0.inner))
+    fit
+    long (carried_all _ _ _ _ (marks
+    c.before.before.before.before.before.before.before.before.before))
     (filled_ground b.words g h n a.from a.start len fit l.5) c.close.ensures.cut_joins in (
       omega arith,
       fit,

@@ -4,7 +4,8 @@ use Rattle.refilling.proofs.no_two.Goals as goal
 
 pub returns : goal.returns
 returns c = record {
-  settles = settles (short_length c.args.d c.well_formed.1.1.0.1.1.0.1.0.1 c.requires.count_bound.0) c.refill.ensures.charted
+  settles = settles (short_length c.args.d c.well_formed.1.1.0.1.1.0.1.0.1 c.requires.count_bound.0)
+      c.refill.ensures.charted
       c.in_second.ensures;
   mirrored_2 = c.refill.ensures.mirrored_2;
 }

@@ -29,13 +29,15 @@ was c = record {
   two = get_or c.args.words.now (2 * c.pair_at-q.result + 1) 0;
 }
 
-first : (c : Lts.After-pair_at Tie.the-claims Reads.Pre Reads.Post Tie.handed_clauses) → let a = c.args in
+first : (c : Lts.After-pair_at Tie.the-claims Reads.Pre Reads.Post Tie.handed_clauses) → let a =
+    c.args in
     first_word a.words.now a.n a.start a.len
     ≡ get_or a.words.now (2 * c.pair_at-q.result) 0
 first c = ap (λ (x : ℕ). get_or c.args.words.now (2 * x) 0)
     (sym c.pair_at-q.ensures)
 
-second : (c : Lts.After-pair_at Tie.the-claims Reads.Pre Reads.Post Tie.handed_clauses) → let a = c.args in
+second : (c : Lts.After-pair_at Tie.the-claims Reads.Pre Reads.Post Tie.handed_clauses) → let a =
+    c.args in
     second_word a.words.now a.n a.start a.len
     ≡ get_or a.words.now (2 * c.pair_at-q.result + 1) 0
 second c = ap (λ (x : ℕ). get_or c.args.words.now (2 * x + 1) 0)
@@ -64,7 +66,8 @@ turn_row-requires c =
     let a = c.args in
     let fit = c.requires.n_bound.1.fits in record {
       p_in_bounds = omega (arith, fit, c.requires.n_bound.2, c.requires.mirrored.mirror.long);
-      has_bits = row_has a.start a.len c.requires.n_bound.0 fit c.requires.n_bound.2 c.requires.mirrored.mirror (was c.before.before.before.before)
+      has_bits = row_has a.start a.len c.requires.n_bound.0 fit c.requires.n_bound.2
+          c.requires.mirrored.mirror (was c.before.before.before.before)
           (first c.before.before.before.before) (second c.before.before.before.before);
     }
 
@@ -75,8 +78,11 @@ turn_pair-requires c = let a = c.args in
         omega (arith, c.requires.n_bound.0, c.requires.n_bound.1.fits, c.requires.n_bound.2),
         omega (arith, c.requires.n_bound.1.fits, t.size, c.requires.mirrored.mirror.long),
       );
-      has_bits = column_has a.start a.len c.requires.n_bound.0 c.requires.n_bound.1.fits c.requires.n_bound.2
-          c.requires.mirrored.mirror (was c.before.before.before.before.before.before.before.before) t (first c.before.before.before.before.before.before.before.before) (second c.before.before.before.before.before.before.before.before);
+      has_bits = column_has a.start a.len c.requires.n_bound.0 c.requires.n_bound.1.fits
+          c.requires.n_bound.2
+          c.requires.mirrored.mirror (was c.before.before.before.before.before.before.before.before)
+          t (first c.before.before.before.before.before.before.before.before)
+          (second c.before.before.before.before.before.before.before.before);
     }
 
 pub write-requires : goal.write-requires
@@ -94,12 +100,14 @@ returns c = let a = c.args in
     c.write.ensures in
     let r = c.turn_row.ensures in
     let q = c.turn_pair.ensures in
-    let p = put_same a.start a.len c.requires.n_bound.0 c.requires.n_bound.1.fits c.requires.n_bound.2
+    let p = put_same a.start a.len c.requires.n_bound.0 c.requires.n_bound.1.fits
+    c.requires.n_bound.2
     c.requires.mirrored.mirror t w r q in record {
       wrote_pair = w;
       mirrored_2 = record {
         prepared = prepared_same p c.requires.mirrored.prepared;
-        mirror = mirror_put a.start a.len c.requires.n_bound.0 c.requires.n_bound.1.fits c.requires.n_bound.2
+        mirror = mirror_put a.start a.len c.requires.n_bound.0 c.requires.n_bound.1.fits
+            c.requires.n_bound.2
             c.requires.mirrored.mirror t w r q;
       };
       same_rules = p;

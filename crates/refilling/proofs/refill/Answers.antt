@@ -22,7 +22,8 @@ pub loop-start-init : goal.loop-start-init
 loop-start-init c =
     let a = c.args in
     let r = c.requires.ready in
-    let w = whole c.args.d c.well_formed.1.1.0.1.1.0.1.0.1 c.requires.count_bound.0 c.requires.count_bound.1 in (
+    let w = whole c.args.d c.well_formed.1.1.0.1.1.0.1.0.1 c.requires.count_bound.0
+    c.requires.count_bound.1 in (
       r.within,
       record {
         filled = begun a.words.now (rules_of a.g) (half (wide a.d)) a.d.count a.from
@@ -44,7 +45,13 @@ fill_start-requires c =
     let l = c.loop-start in
     let a = c.args in
     let e : l.start ≡ l.start - 1 + 1 = omega (arith, c.loop-start-test.true) in record {
-      whole = (whole c.args.d c.well_formed.1.1.0.1.1.0.1.0.1 c.requires.count_bound.0 c.requires.count_bound.1, c.requires.count_bound.0, omega (arith, c.loop-start-test.true, l.invariant.0));
+      whole = (
+        whole c.args.d c.well_formed.1.1.0.1.1.0.1.0.1 c.requires.count_bound.0
+            c.requires.count_bound.1,
+        c.requires.count_bound.0,
+        omega
+            (arith, c.loop-start-test.true, l.invariant.0),
+      );
       count_in_bounds = omega (arith, l.invariant.1.past.long, c.requires.count_in_bounds);
       formed = (c.requires.formed, l.invariant.2);
       mirrored = l.invariant.3;
@@ -81,7 +88,8 @@ pub returns : goal.returns
 returns c =
     let a = c.args in
     let l = c.loop-start in
-    let w = whole c.args.d c.well_formed.1.1.0.1.1.0.1.0.1 c.requires.count_bound.0 c.requires.count_bound.1 in
+    let w = whole c.args.d c.well_formed.1.1.0.1.1.0.1.0.1 c.requires.count_bound.0
+    c.requires.count_bound.1 in
     let e : l.start ≡ 0 = omega (arith, c.loop-start-test.false) in record {
       charted = charted a.words.now l.words (rules_of a.g) (half (wide a.d)) a.d.count w.long
           w.inner a.from

@@ -11,12 +11,15 @@ use Rattle.refilling.proofs.rule_at.Reads
 use Rattle.refilling.proofs.rule_at.Tie
 use Rattle.refilling.proofs.rule_at.Goals as goal
 
-own : (c : Lts.Start Tie.the-claims Reads.Pre Reads.Post Tie.handed_clauses) → RuleWords c.args.kept.now (rule_at_of c.args.i)
+own : (c : Lts.Start Tie.the-claims Reads.Pre Reads.Post Tie.handed_clauses)
+    → RuleWords c.args.kept.now (rule_at_of c.args.i)
     (rule (rules_of c.args.g) c.args.i)
-own c = c.requires.kept_rules.each c.args.i (omega (arith, c.requires.formed.0.whole, c.requires.formed.1))
+own c = c.requires.kept_rules.each c.args.i
+    (omega (arith, c.requires.formed.0.whole, c.requires.formed.1))
     c.requires.formed.2
 
-few : (c : Lts.Start Tie.the-claims Reads.Pre Reads.Post Tie.handed_clauses) → FewWords c.args.kept.now (rule_at_of c.args.i)
+few : (c : Lts.Start Tie.the-claims Reads.Pre Reads.Post Tie.handed_clauses)
+    → FewWords c.args.kept.now (rule_at_of c.args.i)
 few c =
     let h : c.args.i < length (rules_of c.args.g) =
     omega (arith, c.requires.formed.0.whole, c.requires.formed.1) in
@@ -31,7 +34,8 @@ pub overflow_cast-clause-2 : goal.overflow_cast-clause-2
 overflow_cast-clause-2 c = omega (arith, (few c.before.before.before.before.before.before).second)
 
 pub overflow_cast-result : goal.overflow_cast-result
-overflow_cast-result c = omega (arith, (few c.before.before.before.before.before.before.before).left)
+overflow_cast-result c =
+    omega (arith, (few c.before.before.before.before.before.before.before).left)
 
 pub returns : goal.returns
 returns c = rule_of c.args.kept.now (rule_at_of c.args.i) (rule (rules_of c.args.g) c.args.i)

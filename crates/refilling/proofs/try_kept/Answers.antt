@@ -27,13 +27,30 @@ overflow_add-base c =
     omega (arith, c.lowest.ensures.small, c.requires.formed.1)
 
 pub rule_at-r-requires : goal.rule_at-r-requires
-rule_at-r-requires c = record { formed = (c.requires.formed.0, omega (arith, c.requires.formed.2.within c.lowest.result (c.loop-rest.invariant.among c.lowest.result c.lowest.ensures.member), c.requires.formed.0.whole), c.requires.formed.2.binary _ (c.loop-rest.invariant.among c.lowest.result c.lowest.ensures.member)); kept_rules = c.requires.kept_rules }
+rule_at-r-requires c = record {
+  formed = (
+    c.requires.formed.0,
+    omega (
+      arith,
+      c.requires.formed.2.within c.lowest.result
+          (c.loop-rest.invariant.among c.lowest.result c.lowest.ensures.member),
+      c.requires.formed.0.whole,
+    ),
+    c.requires.formed.2.binary _
+        (c.loop-rest.invariant.among c.lowest.result c.lowest.ensures.member),
+  );
+  kept_rules = c.requires.kept_rules;
+}
 
 pub overflow_sub-rest : goal.overflow_sub-rest
 overflow_sub-rest c = omega (arith, c.loop-rest-test.true)
 
 pub has-requires : goal.has-requires
-has-requires c = (subst SmallRule (sym c.rule_at-r.ensures) (every_at SmallRule no_rule (rules_of c.args.g) c.requires.formed.0.small (c.args.base + c.lowest.result) (c.requires.formed.2.within c.lowest.result (c.loop-rest.invariant.among c.lowest.result c.lowest.ensures.member)))).left
+has-requires c = (subst SmallRule (sym c.rule_at-r.ensures)
+    (every_at SmallRule no_rule (rules_of c.args.g) c.requires.formed.0.small
+    (c.args.base + c.lowest.result)
+    (c.requires.formed.2.within c.lowest.result
+    (c.loop-rest.invariant.among c.lowest.result c.lowest.ensures.member)))).left
 
 pub loop-rest-smaller-then-has : goal.loop-rest-smaller-then-has
 loop-rest-smaller-then-has c =
@@ -53,7 +70,14 @@ loop-rest-preserved-then-has c =
     (c.has.ensures.is c.if-has.true)))
 
 pub try_rule-u-requires : goal.try_rule-u-requires
-try_rule-u-requires c = record { small_rule = subst SmallRule (sym c.rule_at-r.ensures) (every_at SmallRule no_rule (rules_of c.args.g) c.requires.formed.0.small (c.args.base + c.lowest.result) (c.requires.formed.2.within c.lowest.result (c.loop-rest.invariant.among c.lowest.result c.lowest.ensures.member))); in_bounds = c.requires.in_bounds }
+try_rule-u-requires c = record {
+  small_rule = subst SmallRule (sym c.rule_at-r.ensures)
+      (every_at SmallRule no_rule (rules_of c.args.g) c.requires.formed.0.small
+      (c.args.base + c.lowest.result)
+      (c.requires.formed.2.within c.lowest.result
+      (c.loop-rest.invariant.among c.lowest.result c.lowest.ensures.member)));
+  in_bounds = c.requires.in_bounds;
+}
 
 pub loop-rest-smaller : goal.loop-rest-smaller
 loop-rest-smaller c =

@@ -9,7 +9,10 @@ returns-then-e-ge64 c =
 pub turn_pair-requires : goal.turn_pair-requires
 turn_pair-requires c =
     let low = c.if-e-ge64.false in
-    record { c_bound = (omega arith, c.requires.p_in_bounds); has_bits = c.requires.has_bits (omega arith) }
+    record {
+      c_bound = (omega arith, c.requires.p_in_bounds);
+      has_bits = c.requires.has_bits (omega arith);
+    }
 
 pub returns : goal.returns
 returns c = record {

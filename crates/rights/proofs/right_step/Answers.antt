@@ -16,7 +16,8 @@ use Rattle.rights.proofs.right_step.Tie
 use Rattle.rights.proofs.right_step.Goals as goal
 
 -- what the line is
-turned : (c : Lts.After-turn_at Tie.the-claims Reads.Pre Reads.Post) (x : Turn) → c.turn_at.result ≡ x
+turned : (c : Lts.After-turn_at Tie.the-claims Reads.Pre Reads.Post) (x : Turn)
+    → c.turn_at.result ≡ x
     → step_at_of 50 50 (right_said (right_line
     (bytes_left c.args.s.now c.args.c))) x
     ≡ right_line_step (bytes_left c.args.s.now c.args.c)
@@ -28,7 +29,8 @@ turned c x is =
     ∙ step_turn (bytes_left a.s.now a.c) (ltb a.c.end (length a.s.now))
 
 -- what its fields say
-said : (c : Lts.After-right_line Tie.the-claims Reads.Pre Reads.Post) (x : RightLine) → c.right_line.result ≡ x
+said : (c : Lts.After-right_line Tie.the-claims Reads.Pre Reads.Post) (x : RightLine)
+    → c.right_line.result ≡ x
     → right_said x ≡ right_said (right_line (bytes_left c.args.s.now c.args.c))
 said c x is =
     ap right_said (sym is ∙ c.right_line.ensures ∙ ap right_fields

@@ -15,7 +15,17 @@ pub count_first-x-requires : goal.count_first-x-requires
 count_first-x-requires c =
     let a = c.args in
     let e = c.if-d.false in
-    let b = c.requires.beside_there in record { ready = (c.requires.ready, b.small e, omega (arith, b.fits e, c.requires.ready.positioned.whole)); nulls = c.requires.nulls; first_there = b.there e }
+    let b = c.requires.beside_there in
+    record {
+      ready = (
+        c.requires.ready,
+        b.small e,
+        omega
+            (arith, b.fits e, c.requires.ready.positioned.whole),
+      );
+      nulls = c.requires.nulls;
+      first_there = b.there e;
+    }
 
 pub add-requires : goal.add-requires
 add-requires c =

@@ -11,11 +11,20 @@ use Rattle.row_counts.proofs.Firsts.{spanned, spanned_there}
 use Rattle.row_counts.proofs.count_by.Goals as goal
 
 pub null_counts-requires : goal.null_counts-requires
-null_counts-requires c = record { ready = c.requires.ready; has_firsts = c.requires.has_firsts; sound = sound_none (rules_of c.args.g) }
+null_counts-requires c = record {
+  ready = c.requires.ready;
+  has_firsts = c.requires.has_firsts;
+  sound = sound_none (rules_of c.args.g);
+}
 
 pub count_first-a-requires : goal.count_first-a-requires
 count_first-a-requires c =
-    let p = c.requires.ready.positioned in record { ready = (c.requires.ready, omega arith, omega arith); nulls = c.null_counts.ensures; first_there = spanned_there c.args.s.count p.whole (wanted_first _ c.requires.wanted).goal }
+    let p = c.requires.ready.positioned in
+    record {
+      ready = (c.requires.ready, omega arith, omega arith);
+      nulls = c.null_counts.ensures;
+      first_there = spanned_there c.args.s.count p.whole (wanted_first _ c.requires.wanted).goal;
+    }
 
 pub exact_or_more-first-requires : goal.exact_or_more-first-requires
 exact_or_more-first-requires c =

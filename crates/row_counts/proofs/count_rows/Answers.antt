@@ -7,7 +7,12 @@ pub cyclic-requires : goal.cyclic-requires
 cyclic-requires c = c.requires.charted.formed
 
 pub count_low-requires : goal.count_low-requires
-count_low-requires c = record { charted = c.requires.charted; has_firsts = c.requires.has_firsts; wanted = c.requires.wanted; cyclic = c.cyclic.ensures.is c.if-cyclic.true }
+count_low-requires c = record {
+  charted = c.requires.charted;
+  has_firsts = c.requires.has_firsts;
+  wanted = c.requires.wanted;
+  cyclic = c.cyclic.ensures.is c.if-cyclic.true;
+}
 
 pub count_by-requires : goal.count_by-requires
 count_by-requires c = record {

@@ -7,7 +7,11 @@ use Rattle.row_counts.proofs.CappedLaws.{capped_le}
 use Rattle.row_counts.proofs.count_second.Goals as goal
 
 pub walk_second-requires : goal.walk_second-requires
-walk_second-requires c = record { ready = c.requires.ready; nulls = c.requires.nulls; wanted = rw c.if-two.true at c.requires.wanted }
+walk_second-requires c = record {
+  ready = c.requires.ready;
+  nulls = c.requires.nulls;
+  wanted = rw c.if-two.true at c.requires.wanted;
+}
 
 pub returns-then-two : goal.returns-then-two
 returns-then-two c =

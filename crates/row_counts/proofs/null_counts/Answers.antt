@@ -8,7 +8,8 @@ pub loop-s-init : goal.loop-s-init
 loop-s-init c = c.requires.sound
 
 pub null_pass-more-requires : goal.null_pass-more-requires
-null_pass-more-requires c = record { ready = c.requires.ready; has_firsts = c.requires.has_firsts; sound = c.loop-s.invariant }
+null_pass-more-requires c = record
+    { ready = c.requires.ready; has_firsts = c.requires.has_firsts; sound = c.loop-s.invariant }
 
 pub shape_of-z-then-not-more : goal.shape_of-z-then-not-more
 shape_of-z-then-not-more c =

@@ -14,7 +14,11 @@ loop-a-init c = (
 )
 
 pub null_try-found-requires : goal.null_try-found-requires
-null_try-found-requires c = record { ready = (c.requires.ready, c.loop-a-test.true); has_firsts = c.requires.has_firsts; sound = c.loop-a.invariant.1.sound }
+null_try-found-requires c = record {
+  ready = (c.requires.ready, c.loop-a-test.true);
+  has_firsts = c.requires.has_firsts;
+  sound = c.loop-a.invariant.1.sound;
+}
 
 pub loop-a-smaller : goal.loop-a-smaller
 loop-a-smaller c = omega (arith, c.loop-a-test.true)

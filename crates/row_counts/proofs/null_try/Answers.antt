@@ -35,7 +35,8 @@ bit z x e =
     (sym r.positioned.whole) (x.is e) in
     (r.sheet.one 0 0 z.args.a (omega arith) z.requires.ready.1).0 y
 
-not_there : (z : Lts.Start Tie.the-claims Reads.Pre Reads.Post Tie.handed_clauses) {b : _} → b ≡ false
+not_there : (z : Lts.Start Tie.the-claims Reads.Pre Reads.Post Tie.handed_clauses) {b : _}
+    → b ≡ false
     → Says b (In (first_word z.args.words.now z.args.s.count 0 0) z.args.a)
     → (t : Tree) → FirstTree (rules_of z.args.g) z.args.a [] t → ⊥
 not_there z e x t f =
@@ -81,14 +82,16 @@ pub returns-then-not-in_first : goal.returns-then-not-in_first
 returns-then-not-in_first c =
     let a = c.args in
     passed_none _ c.requires.sound
-    (λ B t d f k. absurd (not_there c.before.before.before.before.before.before.before.before.before c.if-not-in_first.true c.in_first.ensures t
+    (λ B t d f k. absurd (not_there c.before.before.before.before.before.before.before.before.before
+    c.if-not-in_first.true c.in_first.ensures t
     (subst (λ (x : ℕ). FirstTree (rules_of a.g) x [] t) d f)))
 
 pub choose-st-requires : goal.choose-st-requires
 choose-st-requires c =
     let a = c.args in record {
       ready = (c.requires.ready.0, omega arith);
-      has_choice = there c.before.before.before.before.before.before.before.before.before c.if-not-in_first.false
+      has_choice = there c.before.before.before.before.before.before.before.before.before
+          c.if-not-in_first.false
           c.in_first.ensures;
     }
 
@@ -124,7 +127,9 @@ returns c =
     let if2 = if2-here in
     let choose = choose-here in
     let a = c.args in
-    let f = tree c.before.before.before.before.before.before.before.before.before.before.before.before if2.false in_first.ensures in
+    let f = tree
+    c.before.before.before.before.before.before.before.before.before.before.before.before
+    if2.false in_first.ensures in
     let p : 0 < c.null_size-n.result = not_zero _ c.if-n-eq0.false in
     let h : get_or a.z.now a.a 0 ≡ 0 =
     ap (λ (y : ℕ). get_or a.z.now y 0) (sym wide.ensures) ∙ if1.false in

@@ -17,14 +17,21 @@ pub count_first-x-requires : goal.count_first-x-requires
 count_first-x-requires c =
     let a = c.args in
     let o = under_one c.requires.ready.0.formed
-    (omega (arith, c.requires.ready.1, c.requires.ready.0.positioned.whole)) c.requires.parted_there.tree
-    c.requires.parted_there.parted c.if-kind-eq2.true in record { ready = (c.requires.ready.0, o.3, c.requires.ready.1); nulls = c.requires.nulls; first_there = record { tree = o.0; first = o.1 } }
+    (omega (arith, c.requires.ready.1, c.requires.ready.0.positioned.whole))
+    c.requires.parted_there.tree
+    c.requires.parted_there.parted c.if-kind-eq2.true in
+    record {
+      ready = (c.requires.ready.0, o.3, c.requires.ready.1);
+      nulls = c.requires.nulls;
+      first_there = record { tree = o.0; first = o.1 };
+    }
 
 pub add-requires : goal.add-requires
 add-requires c =
     let a = c.args in
     let o = under_one c.requires.ready.0.formed
-    (omega (arith, c.requires.ready.1, c.requires.ready.0.positioned.whole)) c.requires.parted_there.tree
+    (omega (arith, c.requires.ready.1, c.requires.ready.0.positioned.whole))
+    c.requires.parted_there.tree
     c.requires.parted_there.parted c.if-kind-eq2.true in (
       omega arith,
       omega (
@@ -48,8 +55,19 @@ pub count_first-x-requires-2 : goal.count_first-x-requires-2
 count_first-x-requires-2 c =
     let a = c.args in
     let o = under_two c.requires.ready.0.formed
-    (omega (arith, c.requires.ready.1, c.requires.ready.0.positioned.whole)) c.requires.parted_there.tree
-    c.requires.parted_there.parted (λ h. omega (arith, c.if-kind-lt2.false)) c.if-kind-eq2.false in record { ready = (c.requires.ready.0, o.small.0, omega (arith, o.split, c.requires.ready.1)); nulls = c.requires.nulls; first_there = record { tree = o.left; first = o.first } }
+    (omega (arith, c.requires.ready.1, c.requires.ready.0.positioned.whole))
+    c.requires.parted_there.tree
+    c.requires.parted_there.parted (λ h. omega (arith, c.if-kind-lt2.false)) c.if-kind-eq2.false in
+    record {
+      ready = (
+        c.requires.ready.0,
+        o.small.0,
+        omega
+            (arith, o.split, c.requires.ready.1),
+      );
+      nulls = c.requires.nulls;
+      first_there = record { tree = o.left; first = o.first };
+    }
 
 pub overflow_add-i : goal.overflow_add-i
 overflow_add-i c =
@@ -57,7 +75,8 @@ overflow_add-i c =
     let if1 = if1-here in
     let a = c.args in
     let o = under_two c.requires.ready.0.formed
-    (omega (arith, c.requires.ready.1, c.requires.ready.0.positioned.whole)) c.requires.parted_there.tree
+    (omega (arith, c.requires.ready.1, c.requires.ready.0.positioned.whole))
+    c.requires.parted_there.tree
     c.requires.parted_there.parted (λ h. omega (arith, if1.false)) c.if-kind-eq2.false in
     omega (arith, o.split, c.requires.ready.1, c.requires.ready.0.positioned.few)
 
@@ -67,7 +86,8 @@ overflow_sub-l c =
     let if1 = if1-here in
     let a = c.args in
     let o = under_two c.requires.ready.0.formed
-    (omega (arith, c.requires.ready.1, c.requires.ready.0.positioned.whole)) c.requires.parted_there.tree
+    (omega (arith, c.requires.ready.1, c.requires.ready.0.positioned.whole))
+    c.requires.parted_there.tree
     c.requires.parted_there.parted (λ h. omega (arith, if1.false)) c.if-kind-eq2.false in
     o.split
 
@@ -77,8 +97,19 @@ count_first-y-requires c =
     let if1 = if1-here in
     let a = c.args in
     let o = under_two c.requires.ready.0.formed
-    (omega (arith, c.requires.ready.1, c.requires.ready.0.positioned.whole)) c.requires.parted_there.tree
-    c.requires.parted_there.parted (λ h. omega (arith, if1.false)) c.if-kind-eq2.false in record { ready = (c.requires.ready.0, o.small.1, omega (arith, o.split, c.requires.ready.1)); nulls = c.requires.nulls; first_there = record { tree = o.right; first = o.second } }
+    (omega (arith, c.requires.ready.1, c.requires.ready.0.positioned.whole))
+    c.requires.parted_there.tree
+    c.requires.parted_there.parted (λ h. omega (arith, if1.false)) c.if-kind-eq2.false in
+    record {
+      ready = (
+        c.requires.ready.0,
+        o.small.1,
+        omega
+            (arith, o.split, c.requires.ready.1),
+      );
+      nulls = c.requires.nulls;
+      first_there = record { tree = o.right; first = o.second };
+    }
 
 pub add-requires-2 : goal.add-requires-2
 add-requires-2 c =
@@ -88,7 +119,8 @@ add-requires-2 c =
     let if2 = if2-here in
     let a = c.args in
     let o = under_two c.requires.ready.0.formed
-    (omega (arith, c.requires.ready.1, c.requires.ready.0.positioned.whole)) c.requires.parted_there.tree
+    (omega (arith, c.requires.ready.1, c.requires.ready.0.positioned.whole))
+    c.requires.parted_there.tree
     c.requires.parted_there.parted (λ h. omega (arith, if1.false)) if2.false in (
       omega (
         arith,
@@ -127,7 +159,8 @@ returns c =
     let count-first3 = count-first3-here in
     let a = c.args in
     λ u p. let o =
-    under_two c.requires.ready.0.formed (omega (arith, c.requires.ready.1, c.requires.ready.0.positioned.whole))
+    under_two c.requires.ready.0.formed
+    (omega (arith, c.requires.ready.1, c.requires.ready.0.positioned.whole))
     u p (λ h. omega (arith, if1.false)) if2.false in
     two_sum _ _ _ _ (row_count o.left) (row_count o.right) (row_count u)
     (count-first2.ensures o.left o.first)

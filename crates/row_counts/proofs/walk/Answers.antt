@@ -33,7 +33,13 @@ pub choose-st-requires : goal.choose-st-requires
 choose-st-requires c =
     let a = c.args in
     let v = c.loop-total.invariant in
-    let w = v.walk in record { ready = (c.requires.ready.0, omega (arith, w.fits, w.within, c.requires.ready.0.positioned.whole)); has_choice = first_choice w.tree w.first _ _ w.rooted w.spelled }
+    let w = v.walk in record {
+      ready = (
+        c.requires.ready.0,
+        omega (arith, w.fits, w.within, c.requires.ready.0.positioned.whole),
+      );
+      has_choice = first_choice w.tree w.first _ _ w.rooted w.spelled;
+    }
 
 pub own-requires : goal.own-requires
 own-requires c = record {

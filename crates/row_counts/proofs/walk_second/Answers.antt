@@ -26,7 +26,8 @@ use Rattle.row_counts.proofs.walk_second.Tie
 use Rattle.row_counts.proofs.walk_second.Goals as goal
 
 -- what the way is for
-way : (z : Lts.Start Tie.the-claims Reads.Pre Reads.Post goal.the-invariant-loop-total goal.the-decreases-loop-total Tie.handed_clauses) (b i l total : ℕ)
+way : (z : Lts.Start Tie.the-claims Reads.Pre Reads.Post goal.the-invariant-loop-total
+    goal.the-decreases-loop-total Tie.handed_clauses) (b i l total : ℕ)
     (v : SecondGoing (rules_of z.args.g) (spelled z.args.s) b i l total) (st : Step)
     → PickedStep (rules_of z.args.g) b (part (spelled z.args.s) i l) true st
     → st.seeking ≡ true
@@ -135,7 +136,8 @@ beside-requires c =
     let v = loop.invariant in record {
       ready = c.requires.ready;
       nulls = c.requires.nulls;
-      beside_there = (way c.before.before.before.before.before.before.before.before.before.before loop.a loop.i loop.l loop.total v choose.result
+      beside_there = (way c.before.before.before.before.before.before.before.before.before.before
+          loop.a loop.i loop.l loop.total v choose.result
           choose.ensures (not-false _ c.if-not-st.false) c.onward-d.result
           c.onward-d.ensures).beside;
     }
@@ -150,7 +152,8 @@ add-total-requires c =
     let if1 = if1-here in
     let a = c.args in
     let v = loop.invariant in
-    let w = way c.before.before.before.before.before.before.before.before.before.before.before loop.a loop.i loop.l loop.total v choose.result choose.ensures
+    let w = way c.before.before.before.before.before.before.before.before.before.before.before
+    loop.a loop.i loop.l loop.total v choose.result choose.ensures
     (not-false _ if1.false) c.onward-d.result c.onward-d.ensures in
     (v.walk.few, (beside_some w.beside c.beside.ensures).1)
 
@@ -168,7 +171,9 @@ loop-total-smaller c =
     let onward = onward-here in
     let a = c.args in
     let v = loop.invariant in
-    let w = way c.before.before.before.before.before.before.before.before.before.before.before.before loop.a loop.i loop.l loop.total v choose.result choose.ensures
+    let w = way
+    c.before.before.before.before.before.before.before.before.before.before.before.before loop.a
+    loop.i loop.l loop.total v choose.result choose.ensures
     (not-false _ if1.false) onward.result onward.ensures in
     less_left loop.total c.beside.result c.add-total.result loop-test.true
     (beside_some w.beside c.beside.ensures).0 c.add-total.ensures
@@ -185,7 +190,9 @@ loop-total-preserved c =
     let onward = onward-here in
     let a = c.args in
     let v = loop.invariant in
-    let w = way c.before.before.before.before.before.before.before.before.before.before.before.before loop.a loop.i loop.l loop.total v choose.result choose.ensures
+    let w = way
+    c.before.before.before.before.before.before.before.before.before.before.before.before loop.a
+    loop.i loop.l loop.total v choose.result choose.ensures
     (not-false _ if1.false) onward.result onward.ensures in
     record {
       wanted = v.wanted;

@@ -22,22 +22,33 @@ returns-then-kind-eq2 c = branched_one c.requires _ _ c.if-kind-eq2.true _
     c.put.ensures
 
 pub overflow_sub-right : goal.overflow_sub-right
-overflow_sub-right c = omega (arith, room_two c.requires (is_three c.requires c.if-kind-lt2.false c.if-kind-eq4.false c.if-kind-eq2.false))
+overflow_sub-right c = omega (
+  arith,
+  room_two c.requires
+      (is_three c.requires c.if-kind-lt2.false c.if-kind-eq4.false c.if-kind-eq2.false),
+)
 
 pub put-requires-2 : goal.put-requires-2
-put-requires-2 c = omega (arith, room_two c.requires (is_three c.requires c.if-kind-lt2.false c.if-kind-eq4.false c.if-kind-eq2.false))
+put-requires-2 c = omega (
+  arith,
+  room_two c.requires
+      (is_three c.requires c.if-kind-lt2.false c.if-kind-eq4.false c.if-kind-eq2.false),
+)
 
 pub overflow_sub-left : goal.overflow_sub-left
-overflow_sub-left c = room_two c.requires (is_three c.requires c.if-kind-lt2.false c.if-kind-eq4.false c.if-kind-eq2.false)
+overflow_sub-left c = room_two c.requires
+    (is_three c.requires c.if-kind-lt2.false c.if-kind-eq4.false c.if-kind-eq2.false)
 
 pub put-requires-3 : goal.put-requires-3
 put-requires-3 c = omega (
   arith,
-  room_two c.requires (is_three c.requires c.if-kind-lt2.false c.if-kind-eq4.false c.if-kind-eq2.false),
+  room_two c.requires (is_three c.requires c.if-kind-lt2.false c.if-kind-eq4.false
+      c.if-kind-eq2.false),
   c.put-2.auto.out,
 )
 
 pub returns : goal.returns
-returns c = branched_two c.requires _ _ (is_three c.requires c.if-kind-lt2.false c.if-kind-eq4.false c.if-kind-eq2.false) _ _
+returns c = branched_two c.requires _ _
+    (is_three c.requires c.if-kind-lt2.false c.if-kind-eq4.false c.if-kind-eq2.false) _ _
     c.put-2.ensures
     c.put-3.ensures

@@ -10,7 +10,13 @@ use Rattle.rule_lists.proofs.ListLaws.{nexts_more, firsts_kept}
 use Rattle.rule_lists.proofs.list_nexts.Goals as goal
 
 pub loop-i-init : goal.loop-i-init
-loop-i-init c = (omega arith, c.requires.lists_len.0, c.requires.lists_len.1, record { next = λ i h. absurd (omega arith) })
+loop-i-init c = (
+  omega arith,
+  c.requires.lists_len.0,
+  c.requires.lists_len.1,
+  record
+      { next = λ i h. absurd (omega arith) },
+)
 
 pub offset_bounds-g-i : goal.offset_bounds-g-i
 offset_bounds-g-i c = omega (arith, c.requires.formed.few, c.loop-i-test.true)
@@ -80,6 +86,5 @@ returns c = let l = c.loop-i in let e : l.i ≡ length (rules_of c.args.g) = ome
     record {
       long = l.invariant.1;
       firsts = l.invariant.2;
-      nexts =
-          subst (λ (m : ℕ). Nexts (rules_of c.args.g) m l.lists) e l.invariant.3;
+      nexts = subst (λ (m : ℕ). Nexts (rules_of c.args.g) m l.lists) e l.invariant.3;
     }

@@ -8,7 +8,8 @@ use Rattle.rule_lists.proofs.list_nexts.Given as goal
 
 abbrev pub invariant-loop-i : goal.invariant-loop-i
 invariant-loop-i l =
-    (l.i ≤ l.g.count) × (length l.lists ≡ 192) × Firsts (rules_of l.g) 64 l.lists × Nexts (rules_of l.g) l.i l.lists
+    (l.i ≤ l.g.count) × (length l.lists ≡ 192) × Firsts (rules_of l.g) 64 l.lists
+    × Nexts (rules_of l.g) l.i l.lists
 
 abbrev pub decreases-loop-i : goal.decreases-loop-i
 decreases-loop-i l = l.g.count - l.i

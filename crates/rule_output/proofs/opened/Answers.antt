@@ -11,7 +11,8 @@ returns-then-k-eq0 c w =
     (adds_nothing (held w c.args.out))
 
 pub returns-then-k-eq1 : goal.returns-then-k-eq1
-returns-then-k-eq1 c w = counts_by _ _ 1 _ (sym (sym c.heads-k.ensures ∙ c.if-k-eq1.true)) (c.fresh-o.ensures w)
+returns-then-k-eq1 c w =
+    counts_by _ _ 1 _ (sym (sym c.heads-k.ensures ∙ c.if-k-eq1.true)) (c.fresh-o.ensures w)
 
 pub returns : goal.returns
 returns c w =

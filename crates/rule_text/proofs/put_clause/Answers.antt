@@ -14,12 +14,21 @@ returns-in-Empty c = record {
 pub returns-in-Atom : goal.returns-in-Atom
 unfolding clause_text
 returns-in-Atom c =
-    record { wrote = rw c.in-Atom.is c.put_atom.ensures.wrote; upper_bound = c.put_atom.ensures.upper_bound }
+    record {
+      wrote = rw c.in-Atom.is c.put_atom.ensures.wrote;
+      upper_bound = c.put_atom.ensures.upper_bound;
+    }
 
 pub returns-in-Unary : goal.returns-in-Unary
 unfolding clause_text
-returns-in-Unary c = record { wrote = rw c.in-Unary.is c.put_over.ensures.wrote; upper_bound = c.put_over.ensures.upper_bound }
+returns-in-Unary c = record {
+  wrote = rw c.in-Unary.is c.put_over.ensures.wrote;
+  upper_bound = c.put_over.ensures.upper_bound;
+}
 
 pub returns-in-Binary : goal.returns-in-Binary
 unfolding clause_text
-returns-in-Binary c = record { wrote = rw c.in-Binary.is c.put_pair.ensures.wrote; upper_bound = c.put_pair.ensures.upper_bound }
+returns-in-Binary c = record {
+  wrote = rw c.in-Binary.is c.put_pair.ensures.wrote;
+  upper_bound = c.put_pair.ensures.upper_bound;
+}

@@ -14,4 +14,7 @@ returns-then-a-b c =
 pub returns : goal.returns
 returns c =
     let a = c.args in
-    record { wrote = rw (ne_eqb a.a a.b c.if-a-b.false) c.put_ended.ensures.wrote; upper_bound = c.put_ended.ensures.upper_bound }
+    record {
+      wrote = rw (ne_eqb a.a a.b c.if-a-b.false) c.put_ended.ensures.wrote;
+      upper_bound = c.put_ended.ensures.upper_bound;
+    }

@@ -7,7 +7,8 @@ use Rattle.rule_text.proofs.put_rules.Given as goal
 
 abbrev pub invariant-loop-i : goal.invariant-loop-i
 invariant-loop-i l =
-    (l.i ≤ l.g.count) × (l.next ≤ l.at + 29 * l.i) × Wrote l.initial.out l.out l.at (rules_text (take l.i l.g.rules)) l.next
+    (l.i ≤ l.g.count) × (l.next ≤ l.at + 29 * l.i) × Wrote l.initial.out l.out l.at
+    (rules_text (take l.i l.g.rules)) l.next
 
 abbrev pub decreases-loop-i : goal.decreases-loop-i
 decreases-loop-i l = l.g.count - l.i

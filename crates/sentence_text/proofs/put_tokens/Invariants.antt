@@ -7,7 +7,8 @@ use Rattle.sentence_text.proofs.put_tokens.Given as goal
 
 abbrev pub invariant-loop-i : goal.invariant-loop-i
 invariant-loop-i l =
-    (l.i ≤ l.s.count) × (l.next ≤ l.at + 18 * l.i) × Wrote l.initial.out l.out l.at (token_lines (take l.i l.s.tokens)) l.next
+    (l.i ≤ l.s.count) × (l.next ≤ l.at + 18 * l.i) × Wrote l.initial.out l.out l.at
+    (token_lines (take l.i l.s.tokens)) l.next
 
 abbrev pub decreases-loop-i : goal.decreases-loop-i
 decreases-loop-i l = l.s.count - l.i

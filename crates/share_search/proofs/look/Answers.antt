@@ -19,7 +19,13 @@ returns-then-past-start c =
     }
 
 pub has_two-requires : goal.has_two-requires
-has_two-requires c = record { n_bound = (c.requires.few.0.high, c.requires.few.2); formed = c.requires.formed; n_in_bounds = c.requires.n_in_bounds; tabled = c.requires.tabled; mirrored = c.requires.mirrored }
+has_two-requires c = record {
+  n_bound = (c.requires.few.0.high, c.requires.few.2);
+  formed = c.requires.formed;
+  n_in_bounds = c.requires.n_in_bounds;
+  tabled = c.requires.tabled;
+  mirrored = c.requires.mirrored;
+}
 
 pub shape_of-words-then-b-n : goal.shape_of-words-then-b-n
 shape_of-words-then-b-n c = c.has_two.ensures.says.1.long
@@ -43,14 +49,23 @@ returns-then-b-n c =
 
 pub returns-then-end-past : goal.returns-then-end-past
 returns-then-end-past c =
-    let w : c.args.set < 2 ^ 64 = omega arith in record { looked = (looked_across w c.requires.few.1 c.if-b-n.false, past_same _ _); mirrored_2 = c.requires.mirrored }
+    let w : c.args.set < 2 ^ 64 = omega arith in
+    record {
+      looked = (looked_across w c.requires.few.1 c.if-b-n.false, past_same _ _);
+      mirrored_2 = c.requires.mirrored;
+    }
 
 pub held-h-requires : goal.held-h-requires
-held-h-requires c = record { few = c.requires.few.0; candidate = c.requires.few.2; b_le_n = c.requires.few.1 }
+held-h-requires c =
+    record { few = c.requires.few.0; candidate = c.requires.few.2; b_le_n = c.requires.few.1 }
 
 pub returns-then-b-h : goal.returns-then-b-h
 returns-then-b-h c =
-    let w : c.args.set < 2 ^ 64 = omega arith in record { looked = (looked_across w c.requires.few.1 c.if-b-n.false, past_same _ _); mirrored_2 = c.requires.mirrored }
+    let w : c.args.set < 2 ^ 64 = omega arith in
+    record {
+      looked = (looked_across w c.requires.few.1 c.if-b-n.false, past_same _ _);
+      mirrored_2 = c.requires.mirrored;
+    }
 
 pub outdone-requires : goal.outdone-requires
 outdone-requires c = record {

@@ -3,7 +3,10 @@ use Rattle.spans.proofs.ChangeLaws.{past_same}
 use Rattle.share_search.proofs.outdone.Goals as goal
 
 pub passable-requires : goal.passable-requires
-passable-requires c = record { b_le_n = (c.requires.n_bound.1, c.requires.n_bound.0); candidate = c.requires.n_bound.2 }
+passable-requires c = record {
+  b_le_n = (c.requires.n_bound.1, c.requires.n_bound.0);
+  candidate = c.requires.n_bound.2;
+}
 
 pub returns-then-passable : goal.returns-then-passable
 returns-then-passable c = record {

@@ -10,10 +10,16 @@ use Rattle.share_search.proofs.Looking.{turn_first, turn_next, turn_more, next_f
 use Rattle.share_search.proofs.search.Goals as goal
 
 pub open_sheet-requires : goal.open_sheet-requires
-open_sheet-requires c = record { n_bound = omega (arith, c.requires.few.0.high); n_in_bounds = c.requires.n_in_bounds; n_in_bounds_2 = c.requires.n_in_bounds_2.0; prepared = c.requires.n_in_bounds_2.1 }
+open_sheet-requires c = record {
+  n_bound = omega (arith, c.requires.few.0.high);
+  n_in_bounds = c.requires.n_in_bounds;
+  n_in_bounds_2 = c.requires.n_in_bounds_2.0;
+  prepared = c.requires.n_in_bounds_2.1;
+}
 
 pub first-c-requires : goal.first-c-requires
-first-c-requires c = record { le_n = (c.requires.few.0.low, c.requires.few.0.high); lowest = c.requires.few.1 }
+first-c-requires c =
+    record { le_n = (c.requires.few.0.low, c.requires.few.0.high); lowest = c.requires.few.1 }
 
 pub loop-g-init : goal.loop-g-init
 loop-g-init c = let w : c.args.set < 2 ^ 64 = omega arith in (
@@ -25,7 +31,12 @@ loop-g-init c = let w : c.args.set < 2 ^ 64 = omega arith in (
 )
 
 pub block_of-k-requires : goal.block_of-k-requires
-block_of-k-requires c = let l = c.loop-g in record { few = c.requires.few.0; candidate = l.invariant.0.before.candidate; b_le_n = l.invariant.0.known }
+block_of-k-requires c = let l = c.loop-g in
+    record {
+      few = c.requires.few.0;
+      candidate = l.invariant.0.before.candidate;
+      b_le_n = l.invariant.0.known;
+    }
 
 pub shape_of-words-then-end-k : goal.shape_of-words-then-end-k
 shape_of-words-then-end-k c = (past_then c.open_sheet.ensures.past c.loop-g.invariant.1).long

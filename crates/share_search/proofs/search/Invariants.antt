@@ -14,7 +14,8 @@ use Rattle.share_search.proofs.search.Given as goal
 
 abbrev pub invariant-loop-g : goal.invariant-loop-g
 invariant-loop-g l = ShareTurn (rules_of l.g)
-    l.set l.n l.start l.b (cells l.c 0 l.n) × Past (2 * pairs l.n) l.initial.words l.words × Mirrored (rules_of l.g) l.n l.words l.cuts
+    l.set l.n l.start l.b (cells l.c 0 l.n) × Past (2 * pairs l.n) l.initial.words l.words
+    × Mirrored (rules_of l.g) l.n l.words l.cuts
     × (length l.cuts ≡ length l.initial.cuts)
 
 abbrev pub decreases-loop-g : goal.decreases-loop-g

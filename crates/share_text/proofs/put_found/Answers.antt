@@ -5,7 +5,8 @@ use borrow.Author.Rules.{rules}
 use Rattle.share_text.proofs.put_found.Goals as goal
 
 pub put_number-requires : goal.put_number-requires
-put_number-requires c = omega (arith, decimal_length 20 c.args.number (omega arith) (search rules), c.requires)
+put_number-requires c =
+    omega (arith, decimal_length 20 c.args.number (omega arith) (search rules), c.requires)
 
 pub returns-in-None : goal.returns-in-None
 returns-in-None c = record {

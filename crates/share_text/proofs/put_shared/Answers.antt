@@ -27,4 +27,5 @@ pub returns-in-Given : goal.returns-in-Given
 returns-in-Given c = record { wrote = rw c.in-Given.is (wrote_none _ _); upper_bound = omega arith }
 
 pub returns-in-Refused : goal.returns-in-Refused
-returns-in-Refused c = record { wrote = rw c.in-Refused.is (wrote_none _ _); upper_bound = omega arith }
+returns-in-Refused c =
+    record { wrote = rw c.in-Refused.is (wrote_none _ _); upper_bound = omega arith }

@@ -6,7 +6,8 @@ use borrow.Author.Rules.{rules}
 use Rattle.share_text.proofs.put_value.Goals as goal
 
 pub put_number-next-requires : goal.put_number-next-requires
-put_number-next-requires c = omega (arith, decimal_length 20 c.args.v (omega arith) (search rules), c.requires)
+put_number-next-requires c =
+    omega (arith, decimal_length 20 c.args.v (omega arith) (search rules), c.requires)
 
 pub put_byte-requires : goal.put_byte-requires
 put_byte-requires c = omega (

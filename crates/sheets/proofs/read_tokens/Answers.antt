@@ -30,7 +30,8 @@ returns-then-same-2 c =
     subst (λ (x : Reading Word). TokensRead c.tokens_from-then-same-2.result x)
     (names_good (refused 11 1) wide_names s (items_from (token_step true) []) c.line-c.result
     c.line-c.ensures c.if-end-s.true
-    (sym c.if-same-2.true ∙ c.same-then-end-s.ensures) ∙ names_other (wide_sheet s) token_names s (items_from (token_step false) []) c.line-c.result
+    (sym c.if-same-2.true ∙ c.same-then-end-s.ensures) ∙ names_other (wide_sheet s) token_names s
+    (items_from (token_step false) []) c.line-c.result
     c.line-c.ensures c.if-end-s.true (sym c.if-same.false ∙ c.same.ensures))
     c.tokens_from-then-same-2.ensures
 

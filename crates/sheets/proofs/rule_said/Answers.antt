@@ -12,7 +12,8 @@ use Rattle.sheets.proofs.rule_said.Tie
 use Rattle.sheets.proofs.rule_said.Goals as goal
 
 -- what the line was read as
-said : (c : Lts.After-rule_line Tie.the-claims Reads.Pre Reads.Post) (x : RuleLine) → c.rule_line.result ≡ x
+said : (c : Lts.After-rule_line Tie.the-claims Reads.Pre Reads.Post) (x : RuleLine)
+    → c.rule_line.result ≡ x
     → rule_said_of (take c.args.n c.args.rules) x
     ≡ rule_says (take c.args.n c.args.rules)
     (bytes_left c.args.s.now c.args.c)

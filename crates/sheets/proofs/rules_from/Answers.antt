@@ -38,19 +38,24 @@ loop-book-smaller c =
 pub loop-book-preserved : goal.loop-book-preserved
 loop-book-preserved c =
     reads_turn c.loop-book.invariant c.line-c.ensures
-    (ap as_rule_step (sym c.in-Next.is) ∙ c.add_line-a.ensures.step_value) (adds_as c.loop-book.book c.add_line-a.result.book c.in-Next.is c.add_line-a.ensures.adds)
+    (ap as_rule_step (sym c.in-Next.is) ∙ c.add_line-a.ensures.step_value)
+    (adds_as c.loop-book.book c.add_line-a.result.book c.in-Next.is c.add_line-a.ensures.adds)
 
 pub overflow_add-n : goal.overflow_add-n
 overflow_add-n c =
     omega (
       arith,
-      ap (λ (b : Book). b.grammar.count) (adds_as c.loop-book.book c.add_line-a.result.book c.in-Stop.is c.add_line-a.ensures.adds),
+      ap (λ (b : Book). b.grammar.count)
+          (adds_as c.loop-book.book c.add_line-a.result.book c.in-Stop.is
+          c.add_line-a.ensures.adds),
       c.loop-book.invariant.filled.few,
     )
 
 pub returns-in-Stop : goal.returns-in-Stop
 returns-in-Stop c =
-    let e = ap (λ (b : Book). b.grammar.count + 2) (adds_as c.loop-book.book c.add_line-a.result.book c.in-Stop.is c.add_line-a.ensures.adds) in
+    let e = ap (λ (b : Book). b.grammar.count + 2)
+    (adds_as c.loop-book.book c.add_line-a.result.book c.in-Stop.is
+    c.add_line-a.ensures.adds) in
     rw (
       stopped c.loop-book.invariant.filled c.line-c.ensures
           (ap as_rule_step (sym c.in-Stop.is) ∙ c.add_line-a.ensures.step_value),
@@ -61,22 +66,23 @@ pub finished-requires : goal.finished-requires
 finished-requires c =
     let T = c.loop-book.invariant in
     let a = c.args in
-    let e = ended T.filled c.line-c.ensures (ap as_rule_step (sym c.in-End.is) ∙ c.add_line-a.ensures.step_value) in
+    let e = ended T.filled c.line-c.ensures
+    (ap as_rule_step (sym c.in-End.is) ∙ c.add_line-a.ensures.step_value) in
     let k = rules_kept (pieces_from 10 a.s.now a.start) _ e in
     rw (adds_as c.loop-book.book c.add_line-a.result.book c.in-End.is c.add_line-a.ensures.adds) (
       record {
         few = T.filled.few;
         whole = count T.filled;
         small = k.small;
-        distinct =
-            k.distinct;
+        distinct = k.distinct;
       },
       T.booked.exact,
     )
 
 pub returns-in-End : goal.returns-in-End
 returns-in-End c =
-    let e = ap (λ (b : Book). rules_of b.grammar) (adds_as c.loop-book.book c.add_line-a.result.book c.in-End.is c.add_line-a.ensures.adds) in
+    let e = ap (λ (b : Book). rules_of b.grammar)
+    (adds_as c.loop-book.book c.add_line-a.result.book c.in-End.is c.add_line-a.ensures.adds) in
     rw (
       ended c.loop-book.invariant.filled c.line-c.ensures
           (ap as_rule_step (sym c.in-End.is) ∙ c.add_line-a.ensures.step_value),

@@ -12,7 +12,8 @@ use Rattle.sheets.proofs.token_said.Tie
 use Rattle.sheets.proofs.token_said.Goals as goal
 
 -- what the line was read as
-said : (c : Lts.After-token_line Tie.the-claims Reads.Pre Reads.Post) (x : TokenLine) → c.token_line.result ≡ x
+said : (c : Lts.After-token_line Tie.the-claims Reads.Pre Reads.Post) (x : TokenLine)
+    → c.token_line.result ≡ x
     → token_said_of (take c.args.n c.args.tokens) x
     ≡ token_says c.args.wide
     (take c.args.n c.args.tokens)

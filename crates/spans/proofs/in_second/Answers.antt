@@ -28,7 +28,12 @@ pub offset_bounds-words-at : goal.offset_bounds-words-at
 offset_bounds-words-at c = omega (arith, inside c, c.well_formed.0.1)
 
 pub bounds-words-at : goal.bounds-words-at
-bounds-words-at c = omega (arith, c.pair_at.ensures, pair_at_below c.args.n c.args.start c.args.len c.requires.fits)
+bounds-words-at c = omega (
+  arith,
+  c.pair_at.ensures,
+  pair_at_below c.args.n c.args.start c.args.len
+      c.requires.fits,
+)
 
 pub returns : goal.returns
 returns c =

@@ -10,6 +10,7 @@ loop-done-preserved g c = (
   search rules,
   search rules,
   subst (Consumes _ _)
-      (take-put_mid c.loop-done.done c.in_ok-n.n c.loop-done.buf c.read_once.new.buf c.loop-done.invariant.0 (search rules))
+      (take-put_mid c.loop-done.done c.in_ok-n.n c.loop-done.buf c.read_once.new.buf
+      c.loop-done.invariant.0 (search rules))
       (Consumes-trans _ _ _ _ _ c.loop-done.invariant.2 c.in_ok-n.ensures.bytes.0),
 )

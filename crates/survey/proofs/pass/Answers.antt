@@ -16,11 +16,13 @@ use Rattle.survey.proofs.pass.Goals as goal
 abbrev blank : Rule
 blank = record { left = 0; clause = Empty }
 
-array : (c : Lts.Start Tie.the-claims Reads.Pre Reads.Post goal.the-invariant-loop-p goal.the-decreases-loop-p) → length c.args.g.rules ≡ 128
+array : (c : Lts.Start Tie.the-claims Reads.Pre Reads.Post goal.the-invariant-loop-p
+    goal.the-decreases-loop-p) → length c.args.g.rules ≡ 128
 array c = c.well_formed.0.1.1.0.1.0.1
 
 -- the rule at the loop's place
-rule : (c : Lts.In-loop Tie.the-claims Reads.Pre Reads.Post goal.the-invariant-loop-p goal.the-decreases-loop-p)
+rule : (c : Lts.In-loop Tie.the-claims Reads.Pre Reads.Post goal.the-invariant-loop-p
+    goal.the-decreases-loop-p)
     → get_elem? (rules_of c.args.g) c.loop-p.p
     ≡ some (get_or c.args.g.rules c.loop-p.p blank)
 rule c =

@@ -7,7 +7,8 @@ use Rattle.survey.proofs.pass.Given as goal
 
 abbrev pub invariant-loop-p : goal.invariant-loop-p
 invariant-loop-p l =
-    (l.p ≤ l.count) × RulesPassed (AddsBy l.aim l.nulls l.prods) (Aimed (rules_of l.g) l.aim) (rules_of l.g) l.p l.set l.next
+    (l.p ≤ l.count) × RulesPassed (AddsBy l.aim l.nulls l.prods) (Aimed (rules_of l.g) l.aim)
+    (rules_of l.g) l.p l.set l.next
 
 abbrev pub decreases-loop-p : goal.decreases-loop-p
 decreases-loop-p l = l.count - l.p

@@ -4,7 +4,12 @@ use Rattle.sweep_answers.proofs.taken.Goals as goal
 
 pub sweep_rules-s-requires : goal.sweep_rules-s-requires
 sweep_rules-s-requires c =
-    record { bounded = bounded c.requires.sweep_taken; formed = c.requires.formed; exact = c.requires.exact; k_in_bounds = c.requires.sweep_taken.enough }
+    record {
+      bounded = bounded c.requires.sweep_taken;
+      formed = c.requires.formed;
+      exact = c.requires.exact;
+      k_in_bounds = c.requires.sweep_taken.enough;
+    }
 
 pub returns-then-n-eq0 : goal.returns-then-n-eq0
 returns-then-n-eq0 c =

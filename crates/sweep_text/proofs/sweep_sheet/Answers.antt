@@ -12,7 +12,11 @@ use Rattle.sweep_text.proofs.sweep_sheet.Goals as goal
 pub put_sentence-requires : goal.put_sentence-requires
 put_sentence-requires c =
     let f = sweep_few c.sweep_read-r.ensures in
-    record { count_bound = omega arith; count_in_bounds = omega (arith, c.put_head-n.ensures.upper_bound, c.put_head-n.ensures.wrote.long, c.requires) }
+    record {
+      count_bound = omega arith;
+      count_in_bounds = omega
+          (arith, c.put_head-n.ensures.upper_bound, c.put_head-n.ensures.wrote.long, c.requires);
+    }
 
 pub returns : goal.returns
 returns c =
@@ -21,6 +25,5 @@ returns c =
     record {
       text = _;
       is = swept few by refl;
-      wrote =
-          wrote_then c.put_head-n.ensures.wrote c.put_sentence.ensures;
+      wrote = wrote_then c.put_head-n.ensures.wrote c.put_sentence.ensures;
     }

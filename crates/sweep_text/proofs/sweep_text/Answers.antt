@@ -6,7 +6,8 @@ use borrow.Author.Rules.{rules}
 use Rattle.sweep_text.proofs.sweep_text.Goals as goal
 
 pub returns-then-input-gt16384 : goal.returns-then-input-gt16384
-returns-then-input-gt16384 c = record { text = _; is = long (search rules) refl; wrote = c.put_refusal.ensures }
+returns-then-input-gt16384 c =
+    record { text = _; is = long (search rules) refl; wrote = c.put_refusal.ensures }
 
 pub sweep_at-requires : goal.sweep_at-requires
 sweep_at-requires c =
@@ -19,8 +20,7 @@ returns-in-Nowhere c =
     record {
       text = _;
       is = whole (search rules) (rw c.in-Nowhere.is at s) refl;
-      wrote =
-          c.put_refusal-in-Nowhere.ensures;
+      wrote = c.put_refusal-in-Nowhere.ensures;
     }
 
 pub returns-in-At : goal.returns-in-At

@@ -6,7 +6,8 @@ use Rattle.sweeping.proofs.Looking.{looked_earlier_twin, looked_refuted, looked_
 use Rattle.sweeping.proofs.look.Goals as goal
 
 pub earlier_twin-requires : goal.earlier_twin-requires
-earlier_twin-requires c = (omega (arith, c.if-b-gt0.true), c.requires.n_bound.1, c.requires.n_bound.0)
+earlier_twin-requires c =
+    (omega (arith, c.if-b-gt0.true), c.requires.n_bound.1, c.requires.n_bound.0)
 
 pub returns-then-earlier_twin : goal.returns-then-earlier_twin
 returns-then-earlier_twin c = record {
@@ -19,7 +20,13 @@ returns-then-earlier_twin c = record {
 }
 
 pub has_two-requires : goal.has_two-requires
-has_two-requires c = record { n_bound = (c.requires.n_bound.0, c.requires.n_bound.2); formed = c.requires.formed; n_in_bounds = c.requires.n_in_bounds; tabled = c.requires.tabled; mirrored = c.requires.mirrored }
+has_two-requires c = record {
+  n_bound = (c.requires.n_bound.0, c.requires.n_bound.2);
+  formed = c.requires.formed;
+  n_in_bounds = c.requires.n_in_bounds;
+  tabled = c.requires.tabled;
+  mirrored = c.requires.mirrored;
+}
 
 pub returns-then-b-n : goal.returns-then-b-n
 returns-then-b-n c = let h = c.has_two.ensures in record {

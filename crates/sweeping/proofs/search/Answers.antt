@@ -224,7 +224,11 @@ shape_of-cuts-then-k-n c = c.search.invariant.5
 
 pub returns-then-k-n : goal.returns-then-k-n
 returns-then-k-n c =
-    let v = c.search.invariant in record { searched = miss c.nothing-hit.ensures (none_left _ (omega (arith, c.if-k-n.true)) v.1 v.2); past = v.3 }
+    let v = c.search.invariant in record {
+      searched = miss c.nothing-hit.ensures
+          (none_left _ (omega (arith, c.if-k-n.true)) v.1 v.2);
+      past = v.3;
+    }
 
 pub shape_of-words-then-b-n : goal.shape_of-words-then-b-n
 shape_of-words-then-b-n c = (past_then (past_then

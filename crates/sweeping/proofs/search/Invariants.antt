@@ -14,7 +14,8 @@ use Rattle.sweeping.proofs.search.Given as goal
 
 abbrev pub invariant-loop-s : goal.invariant-loop-s
 invariant-loop-s l = SweepTurn (rules_of l.g) l.set l.n l.b
-    (cells l.c 0 l.n) × Past (2 * pairs l.k) l.initial.words l.words × Mirrored (rules_of l.g) l.n l.words l.cuts × (l.n ≤ l.k)
+    (cells l.c 0 l.n) × Past (2 * pairs l.k) l.initial.words l.words
+    × Mirrored (rules_of l.g) l.n l.words l.cuts × (l.n ≤ l.k)
     × (length l.cuts ≡ length l.initial.cuts)
 
 abbrev pub decreases-loop-s : goal.decreases-loop-s
@@ -23,7 +24,8 @@ decreases-loop-s l =
 
 abbrev pub invariant-search : goal.invariant-search
 invariant-search l = (1 ≤ l.n) × (l.n ≤ l.k + 1)
-    × NoneShorter (rules_of l.g) l.set l.n × Past (2 * pairs l.k) l.initial.words l.words × Prepared (rules_of l.g) l.cuts
+    × NoneShorter (rules_of l.g) l.set l.n × Past (2 * pairs l.k) l.initial.words l.words
+    × Prepared (rules_of l.g) l.cuts
     × (length l.cuts ≡ length l.initial.cuts)
 
 abbrev pub decreases-search : goal.decreases-search

@@ -5,11 +5,21 @@ use Rattle.sweeping.proofs.Answers.{found_low, swept_of, all_cleared, lengths_of
 use Rattle.sweeping.proofs.sweep_rules.Goals as goal
 
 pub find-h-requires : goal.find-h-requires
-find-h-requires c = record { le_k = (c.requires.bounded.low, c.requires.bounded.high); formed = c.requires.formed; admits = admits_of (lengths_of c.requires.exact); k_in_bounds = c.requires.k_in_bounds }
+find-h-requires c = record {
+  le_k = (c.requires.bounded.low, c.requires.bounded.high);
+  formed = c.requires.formed;
+  admits = admits_of (lengths_of c.requires.exact);
+  k_in_bounds = c.requires.k_in_bounds;
+}
 
 pub counted-t-requires : goal.counted-t-requires
 counted-t-requires c =
-    record { formed = c.requires.formed; bounded = c.requires.bounded; lengths_of = lengths_of c.requires.exact; found = c.find-h.ensures.found }
+    record {
+      formed = c.requires.formed;
+      bounded = c.requires.bounded;
+      lengths_of = lengths_of c.requires.exact;
+      found = c.find-h.ensures.found;
+    }
 
 pub sentence-sentence-requires : goal.sentence-sentence-requires
 sentence-sentence-requires c =

@@ -13,8 +13,14 @@ put_listed-requires c =
     let f = places_fit c.places-r.ensures in
     let l = length-replicate {A = ℕ} 49152 0 in record {
       count_in_bounds = omega (arith, f, l, c.places-r.auto.list);
-      count_in_bounds_2 = omega
-          (arith, f, l, c.put_head-n.ensures.upper_bound, c.put_head-n.ensures.wrote.long, c.requires);
+      count_in_bounds_2 = omega (
+        arith,
+        f,
+        l,
+        c.put_head-n.ensures.upper_bound,
+        c.put_head-n.ensures.wrote.long,
+        c.requires,
+      );
     }
 
 pub returns : goal.returns

@@ -12,7 +12,11 @@ use Rattle.grammar.specs.Sentences.{spelled}
 use Rattle.tree_choices.proofs.after.Goals as goal
 
 pub overflow_add-k : goal.overflow_add-k
-overflow_add-k c = omega (arith, choice_near c.requires.charted.0 _ c.args.start c.args.len _ _ c.requires.charted.1 (preferred_choice _ _ _ _ _ c.requires.preferred))
+overflow_add-k c = omega (
+  arith,
+  choice_near c.requires.charted.0 _ c.args.start c.args.len _ _
+      c.requires.charted.1 (preferred_choice _ _ _ _ _ c.requires.preferred),
+)
 
 pub next_choice-other-requires : goal.next_choice-other-requires
 next_choice-other-requires c = let r = c.requires.charted in
@@ -27,7 +31,8 @@ step_of-requires c =
     choice_near c.requires.charted.0 _ c.args.start c.args.len _ _ c.requires.charted.1 o.choice
 
 pub step_of-requires-in-Nothing : goal.step_of-requires-in-Nothing
-step_of-requires-in-Nothing c = choice_near c.requires.charted.0 _ c.args.start c.args.len _ _ c.requires.charted.1 (preferred_choice _ _ _ _ _ c.requires.preferred)
+step_of-requires-in-Nothing c = choice_near c.requires.charted.0 _ c.args.start c.args.len _ _
+    c.requires.charted.1 (preferred_choice _ _ _ _ _ c.requires.preferred)
 
 pub returns-in-At : goal.returns-in-At
 returns-in-At c =
@@ -43,4 +48,5 @@ returns-in-Nothing c =
     (part (spelled c.args.s) c.args.start c.args.len) c.args.p (c.args.k + 1)
     c.next_choice-other.result = c.next_choice-other.ensures in
     let o = only_of_none c.requires.first_choice (rw c.in-Nothing.is at h) in
-    chosen c.args.g true (preferred_choice _ _ _ _ _ c.requires.preferred) o c.step_of-in-Nothing.ensures
+    chosen c.args.g true (preferred_choice _ _ _ _ _ c.requires.preferred) o
+    c.step_of-in-Nothing.ensures

@@ -13,7 +13,11 @@ use Rattle.tree_choices.proofs.choose.Goals as goal
 
 pub preferred-found-requires : goal.preferred-found-requires
 preferred-found-requires c = let a = c.args in record {
-  ready = (c.requires.ready.0, omega (arith, c.requires.ready.1, c.wide-start.ensures, c.wide-len.ensures));
+  ready = (
+    c.requires.ready.0,
+    omega
+        (arith, c.requires.ready.1, c.wide-start.ensures, c.wide-len.ensures),
+  );
   has_choice = rw
       (c.wide-start.ensures, c.wide-len.ensures) c.requires.has_choice;
 }

@@ -13,7 +13,10 @@ returns-then-has c = seen (sym (member_says _ _ c.has.ensures) ∙ c.if-has.true
     c.choose.ensures
 
 pub pass-requires : goal.pass-requires
-pass-requires c = record { charted = (charted c.requires.ready.0, c.requires.ready.1); a_bound = choice_small c.requires.ready.0.formed c.requires.has_choice }
+pass-requires c = record {
+  charted = (charted c.requires.ready.0, c.requires.ready.1);
+  a_bound = choice_small c.requires.ready.0.formed c.requires.has_choice;
+}
 
 pub returns : goal.returns
 returns c = closed (sym (member_says _ _ c.has.ensures)

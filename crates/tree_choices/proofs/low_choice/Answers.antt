@@ -11,7 +11,12 @@ use Rattle.grammar.specs.Sentences.{spelled}
 use Rattle.tree_choices.proofs.low_choice.Goals as goal
 
 pub high-requires : goal.high-requires
-high-requires c = (c.requires.ready.0.positioned.few, c.requires.ready.1, c.requires.ready.2, c.requires.height_sheet.long)
+high-requires c = (
+  c.requires.ready.0.positioned.few,
+  c.requires.ready.1,
+  c.requires.ready.2,
+  c.requires.height_sheet.long,
+)
 
 pub loop-q-init : goal.loop-q-init
 loop-q-init c = let a = c.args in
@@ -24,7 +29,11 @@ loop-q-init c = let a = c.args in
 
 pub next_choice-found-requires : goal.next_choice-found-requires
 next_choice-found-requires c = let r =
-    c.requires.ready.0 in record { count_bound = (r.positioned.few, c.requires.ready.1); formed = r.formed; span_sheet = r.sheet }
+    c.requires.ready.0 in record {
+      count_bound = (r.positioned.few, c.requires.ready.1);
+      formed = r.formed;
+      span_sheet = r.sheet;
+    }
 
 pub step_of-st-requires : goal.step_of-st-requires
 step_of-st-requires c = let a = c.args in let r = c.requires.ready.0 in
@@ -54,7 +63,8 @@ height_of-h-requires c = let a = c.args in let r = c.requires.ready.0 in
     c.in-At.q
     c.in-At.l = rw
     c.in-At.is at y in
-    let e = c.step_of-st.ensures x.choice.takes.rule (get_elem?_take a.g.rules a.g.count _ x.choice.takes.stands) in let i =
+    let e = c.step_of-st.ensures x.choice.takes.rule
+    (get_elem?_take a.g.rules a.g.count _ x.choice.takes.stands) in let i =
     step_inside r.formed
     (spelled a.s) a.a
     a.start a.len
@@ -76,9 +86,11 @@ returns-then-h-least c = let a = c.args in let r = c.requires.ready.0 in
     let x : NextAt (rules_of a.g) a.a
     (part (spelled a.s) a.start a.len)
     c.loop-q.p c.loop-q.k c.in-At.q c.in-At.l = rw
-    c.in-At.is at y in let e = c.step_of-st.ensures x.choice.takes.rule (get_elem?_take a.g.rules a.g.count _
+    c.in-At.is at y in let e =
+    c.step_of-st.ensures x.choice.takes.rule (get_elem?_take a.g.rules a.g.count _
     x.choice.takes.stands) in
-    (low_step c.requires.height_sheet a.a a.start a.len (omega (arith, c.requires.ready.1, r.positioned.whole)) a.s.count
+    (low_step c.requires.height_sheet a.a a.start a.len
+    (omega (arith, c.requires.ready.1, r.positioned.whole)) a.s.count
     r.positioned.whole c.loop-q.p
     c.loop-q.k
     c.in-At.q
@@ -125,7 +137,8 @@ loop-q-preserved c = let a = c.args in let r = c.requires.ready.0 in
     let x : NextAt (rules_of a.g) a.a
     (part (spelled a.s) a.start a.len)
     c.loop-q.p c.loop-q.k c.in-At.q c.in-At.l = rw
-    c.in-At.is at y in let e = c.step_of-st.ensures x.choice.takes.rule (get_elem?_take a.g.rules a.g.count _
+    c.in-At.is at y in let e =
+    c.step_of-st.ensures x.choice.takes.rule (get_elem?_take a.g.rules a.g.count _
     x.choice.takes.stands) in let d =
     choice_near
     (charted r)
@@ -152,7 +165,8 @@ pub returns-in-Nothing : goal.returns-in-Nothing
 returns-in-Nothing c = let a = c.args in let r = c.requires.ready.0 in
     let y : NextChoice (rules_of a.g) a.a (part (spelled a.s) a.start a.len)
     c.loop-q.p c.loop-q.k
-    c.next_choice-found.result = c.next_choice-found.ensures in absurd (low_there c.requires.height_sheet a.a a.start a.len
+    c.next_choice-found.result = c.next_choice-found.ensures in
+    absurd (low_there c.requires.height_sheet a.a a.start a.len
     (omega (arith, c.requires.ready.1, r.positioned.whole))
     c.loop-q.p
     c.loop-q.k c.requires.has_choice

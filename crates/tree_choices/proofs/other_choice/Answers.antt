@@ -14,7 +14,11 @@ use Rattle.tree_choices.proofs.other_choice.Goals as goal
 
 pub next_choice-found-requires : goal.next_choice-found-requires
 next_choice-found-requires c = let r = c.requires.charted.0 in
-    record { count_bound = (r.positioned.few, c.requires.charted.1); formed = r.formed; span_sheet = r.sheet }
+    record {
+      count_bound = (r.positioned.few, c.requires.charted.1);
+      formed = r.formed;
+      span_sheet = r.sheet;
+    }
 
 pub step_of-requires : goal.step_of-requires
 step_of-requires c = let a = c.args in let y : NextChoice (rules_of a.g) a.a
@@ -94,5 +98,6 @@ step_of-requires-in-Nothing c = let a = c.args in
 pub returns-in-Nothing : goal.returns-in-Nothing
 returns-in-Nothing c = let a = c.args in
     let y : NextChoice (rules_of a.g) a.a (part (spelled a.s) a.start a.len) 0 0
-    c.next_choice-found.result = c.next_choice-found.ensures in absurd (none_of_none (_, _, preferred_choice _ _ _ _ _ c.requires.preferred)
+    c.next_choice-found.result = c.next_choice-found.ensures in
+    absurd (none_of_none (_, _, preferred_choice _ _ _ _ _ c.requires.preferred)
     (rw c.in-Nothing.is at y))

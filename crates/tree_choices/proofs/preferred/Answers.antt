@@ -8,14 +8,24 @@ use Rattle.tree_choices.proofs.preferred.Goals as goal
 
 pub next_choice-requires : goal.next_choice-requires
 next_choice-requires c = let r = c.requires.ready.0 in
-    record { count_bound = (r.positioned.few, c.requires.ready.1); formed = r.formed; span_sheet = r.sheet }
+    record {
+      count_bound = (r.positioned.few, c.requires.ready.1);
+      formed = r.formed;
+      span_sheet = r.sheet;
+    }
 
 pub returns-then-hs-eq0 : goal.returns-then-hs-eq0
-returns-then-hs-eq0 c = first_pick c.requires.has_choice (c.requires.ready.0.lent.flat c.if-hs-eq0.true)
+returns-then-hs-eq0 c =
+    first_pick c.requires.has_choice (c.requires.ready.0.lent.flat c.if-hs-eq0.true)
     c.next_choice.result c.next_choice.ensures
 
 pub low_choice-requires : goal.low_choice-requires
-low_choice-requires c = let r = c.requires.ready.0 in record { ready = (r, c.requires.ready.1, choice_small r.formed c.requires.has_choice); height_sheet = (r.lent.looping (not_zero _ c.if-hs-eq0.false)).1; has_choice = c.requires.has_choice }
+low_choice-requires c = let r = c.requires.ready.0 in
+    record {
+      ready = (r, c.requires.ready.1, choice_small r.formed c.requires.has_choice);
+      height_sheet = (r.lent.looping (not_zero _ c.if-hs-eq0.false)).1;
+      has_choice = c.requires.has_choice;
+    }
 
 pub returns : goal.returns
 returns c = let a = c.args in

@@ -22,7 +22,10 @@ returns-then-not-two c = λ t u a b.
 
 pub write-m-requires : goal.write-m-requires
 write-m-requires c =
-    record { ready = c.requires.ready; wanted = subst (Wanted _ 0 _) c.if-not-two.false c.requires.wanted }
+    record {
+      ready = c.requires.ready;
+      wanted = subst (Wanted _ 0 _) c.if-not-two.false c.requires.wanted;
+    }
 
 pub returns-then-m-eq0 : goal.returns-then-m-eq0
 returns-then-m-eq0 c = λ t u a b.

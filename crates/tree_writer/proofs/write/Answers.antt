@@ -15,27 +15,35 @@ overflow_cast-s c =
     omega (arith, c.requires.ready.positioned.few)
 
 pub loop-top-init : goal.loop-top-init
-loop-top-init c = running_start c.requires.ready c.requires.wanted _ _ _ (omega arith) (omega arith) c.put.ensures
+loop-top-init c = running_start c.requires.ready c.requires.wanted _ _ _ (omega arith) (omega arith)
+    c.put.ensures
 
 pub look-st-requires : goal.look-st-requires
 look-st-requires c = record {
   ready = (
     c.requires.ready,
-    omega
-        (arith, within (popped c.requires.ready c.loop-top.invariant c.loop-top-test.true), c.requires.ready.positioned.whole),
+    omega (
+      arith,
+      within (popped c.requires.ready c.loop-top.invariant c.loop-top-test.true),
+      c.requires.ready.positioned.whole,
+    ),
   );
   has_choice = has_choice
       (popped c.requires.ready c.loop-top.invariant c.loop-top-test.true);
 }
 
 pub kids-more-requires : goal.kids-more-requires
-kids-more-requires c = chosen_kind (popped c.requires.ready c.loop-top.invariant c.loop-top-test.true) c.requires.ready.formed.distinct c.look-st.ensures
+kids-more-requires c = chosen_kind
+    (popped c.requires.ready c.loop-top.invariant c.loop-top-test.true)
+    c.requires.ready.formed.distinct c.look-st.ensures
 
 pub overflow_add-n : goal.overflow_add-n
 overflow_add-n c = omega (
   arith,
   c.kids-more.ensures,
-  kids_le c.look-st.result.kind (chosen_kind (popped c.requires.ready c.loop-top.invariant c.loop-top-test.true) c.requires.ready.formed.distinct c.look-st.ensures),
+  kids_le c.look-st.result.kind (chosen_kind
+      (popped c.requires.ready c.loop-top.invariant c.loop-top-test.true)
+      c.requires.ready.formed.distinct c.look-st.ensures),
   c.loop-top.invariant.state.room,
   c.loop-top-test.true,
   c.well_formed,
@@ -43,7 +51,8 @@ overflow_add-n c = omega (
 
 pub returns-then-top-n : goal.returns-then-top-n
 returns-then-top-n c =
-    let h = chosen_over (popped c.requires.ready c.loop-top.invariant c.loop-top-test.true) c.requires.ready.formed.distinct
+    let h = chosen_over (popped c.requires.ready c.loop-top.invariant c.loop-top-test.true)
+    c.requires.ready.formed.distinct
     c.look-st.ensures
     (omega (
       arith,
@@ -54,7 +63,8 @@ returns-then-top-n c =
     c.clear-then-top-n.ensures
 
 pub overflow_mul-n : goal.overflow_mul-n
-overflow_mul-n c = omega (arith, c.loop-top.invariant.state.room, c.loop-top-test.true, c.well_formed)
+overflow_mul-n c =
+    omega (arith, c.loop-top.invariant.state.room, c.loop-top-test.true, c.well_formed)
 
 pub overflow_add-top : goal.overflow_add-top
 overflow_add-top c = omega (arith, c.loop-top-test.true, c.well_formed)
@@ -62,7 +72,8 @@ overflow_add-top c = omega (arith, c.loop-top-test.true, c.well_formed)
 pub branch-top-requires : goal.branch-top-requires
 branch-top-requires c =
     record {
-      known = chosen_kind (popped c.requires.ready c.loop-top.invariant c.loop-top-test.true) c.requires.ready.formed.distinct c.look-st.ensures;
+      known = chosen_kind (popped c.requires.ready c.loop-top.invariant c.loop-top-test.true)
+          c.requires.ready.formed.distinct c.look-st.ensures;
       within = omega (
         arith,
         c.put-in-loop-top.auto.out,
@@ -74,8 +85,15 @@ branch-top-requires c =
         c.if-top-n.false,
         c.kids-more.ensures,
       );
-      part = omega (arith, within (popped c.requires.ready c.loop-top.invariant c.loop-top-test.true), c.requires.ready.positioned.few, c.requires.ready.positioned.whole);
-      less = chosen_split (popped c.requires.ready c.loop-top.invariant c.loop-top-test.true) c.requires.ready.formed.distinct c.look-st.ensures;
+      part = omega (
+        arith,
+        within (popped c.requires.ready c.loop-top.invariant
+            c.loop-top-test.true),
+        c.requires.ready.positioned.few,
+        c.requires.ready.positioned.whole,
+      );
+      less = chosen_split (popped c.requires.ready c.loop-top.invariant c.loop-top-test.true)
+          c.requires.ready.formed.distinct c.look-st.ensures;
     }
 
 pub loop-top-preserved : goal.loop-top-preserved
@@ -84,7 +102,8 @@ loop-top-preserved c =
       tree = c.loop-top.invariant.tree;
       goal = c.loop-top.invariant.goal;
       state =
-          chosen_turn (popped c.requires.ready c.loop-top.invariant c.loop-top-test.true) c.requires.ready.formed.distinct
+          chosen_turn (popped c.requires.ready c.loop-top.invariant c.loop-top-test.true)
+          c.requires.ready.formed.distinct
           c.look-st.ensures (omega (
             arith,
             c.if-top-n.false,

@@ -28,4 +28,7 @@ returns-then-has c =
     }
 
 pub returns : goal.returns
-returns c = record { how_many = long_none _ _ _ (c.has.ensures.isnt c.if-has.false); upper_bound = omega arith }
+returns c = record {
+  how_many = long_none _ _ _ (c.has.ensures.isnt c.if-has.false);
+  upper_bound = omega arith;
+}

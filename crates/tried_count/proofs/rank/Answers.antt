@@ -25,7 +25,9 @@ cell-d-requires c =
     omega (arith, c.loop-i-test.true, c.requires.fair.high)
 
 -- the cell fits
-fits : (c : Lts.After-cell Tie.the-claims Reads.Pre Reads.Post goal.the-invariant-loop-i goal.the-decreases-loop-i Tie.handed_clauses) → Fits (Among c.args.set) c.args.n c.loop-i.m c.loop-i.p
+fits : (c : Lts.After-cell Tie.the-claims Reads.Pre Reads.Post goal.the-invariant-loop-i
+    goal.the-decreases-loop-i Tie.handed_clauses)
+    → Fits (Among c.args.set) c.args.n c.loop-i.m c.loop-i.p
     c.cell-d.result
 fits c = ranking_fits _ _ _ _ _ _ _ _ _ c.loop-i-test.true c.cell-d.ensures
     c.loop-i.invariant

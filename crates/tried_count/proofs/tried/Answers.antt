@@ -13,7 +13,8 @@ below : (c : Lts.Start Tie.the-claims Reads.Pre Reads.Post Tie.handed_clauses) �
 below c = omega (arith, c.well_formed)
 
 -- there is a candidate
-some : (c : Lts.After-terminal_count Tie.the-claims Reads.Pre Reads.Post Tie.handed_clauses) → 1 ≤ c.args.n
+some : (c : Lts.After-terminal_count Tie.the-claims Reads.Pre Reads.Post Tie.handed_clauses)
+    → 1 ≤ c.args.n
 some c = omega (arith, c.if-n-eq0.false)
 
 pub up_to-requires : goal.up_to-requires
@@ -45,7 +46,8 @@ small c =
       c.requires.hit.high,
       c.requires.fair.high,
       c.rank.ensures,
-      rank_small c.args.set (below c.before.before.before.before) c.terminal_count-t.result c.args.n _
+      rank_small c.args.set (below c.before.before.before.before) c.terminal_count-t.result c.args.n
+          _
           c.terminal_count-t.ensures.ones
           ((fair_all c.requires.fair).each _ (some c.before.before) c.requires.hit.high)
           (c.requires.hit.candidate (some c.before.before)),
@@ -60,5 +62,6 @@ overflow_add-result-2 c = omega (arith, small c)
 pub returns : goal.returns
 returns c =
     tried_found _ _ _ _ _ (some c.before.before) c.requires.hit c.up_to-shorter.ensures.how_many
-    (rw c.rank.ensures (rank_counts _ (below c.before.before.before.before) _ _ _ c.terminal_count-t.ensures.ones
+    (rw c.rank.ensures (rank_counts _ (below c.before.before.before.before) _ _ _
+    c.terminal_count-t.ensures.ones
     (c.requires.hit.candidate (some c.before.before))))

@@ -29,4 +29,7 @@ loop-n-preserved c = (
 pub returns : goal.returns
 returns c =
     let e : c.loop-n.n ≡ c.args.k = omega (arith, c.loop-n-test.false, c.loop-n.invariant.0) in
-    record { how_many = rw e at c.loop-n.invariant.2; upper_bound = omega (arith, e, c.loop-n.invariant.1) }
+    record {
+      how_many = rw e at c.loop-n.invariant.2;
+      upper_bound = omega (arith, e, c.loop-n.invariant.1);
+    }

@@ -7,7 +7,8 @@ use Rattle.candidates.proofs.Candidate.filled.Given as goal
 
 abbrev pub invariant-loop-i : goal.invariant-loop-i
 invariant-loop-i l =
-    (l.i ≤ l.n) × ((r : Candidate) → Filled l.set l.n l.c l.i r → Filled l.set l.n l.initial.c l.initial.i r)
+    (l.i ≤ l.n) × ((r : Candidate) → Filled l.set l.n l.c l.i r
+    → Filled l.set l.n l.initial.c l.initial.i r)
 
 abbrev pub decreases-loop-i : goal.decreases-loop-i
 decreases-loop-i l = l.n - l.i

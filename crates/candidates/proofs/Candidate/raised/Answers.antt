@@ -22,7 +22,10 @@ returns-in_default c =
 
 pub filled-r-requires : goal.filled-r-requires
 filled-r-requires c =
-    record { le_n = (c.requires.le_n.0, c.requires.le_n.1, omega (arith, c.requires.le_n.2)); lowest = c.requires.lowest }
+    record {
+      le_n = (c.requires.le_n.0, c.requires.le_n.1, omega (arith, c.requires.le_n.2));
+      lowest = c.requires.lowest;
+    }
 
 pub returns : goal.returns
 returns c =

@@ -12,7 +12,12 @@ loop-i-init c = (search rules, last_start c.args.set c.args.n c.args.self c.args
 pub raised-r-requires : goal.raised-r-requires
 raised-r-requires c =
     let h : c.loop-i.i - 1 < c.args.n =
-    omega (arith, c.loop-i-test.true, c.loop-i.invariant.0, c.requires.le_n.2) in record { le_n = (c.requires.le_n.0, c.requires.le_n.1, h); lowest = c.requires.lowest; fits = fits_here c.args.set c.args.n c.args.self c.requires.candidate (c.loop-i.i - 1) h }
+    omega (arith, c.loop-i-test.true, c.loop-i.invariant.0, c.requires.le_n.2) in
+    record {
+      le_n = (c.requires.le_n.0, c.requires.le_n.1, h);
+      lowest = c.requires.lowest;
+      fits = fits_here c.args.set c.args.n c.args.self c.requires.candidate (c.loop-i.i - 1) h;
+    }
 
 pub returns-then-r : goal.returns-then-r
 returns-then-r c =

@@ -12,7 +12,8 @@ pub piece_end-e-requires : goal.piece_end-e-requires
 piece_end-e-requires c = omega (arith, line_long c.args.s.now c.args.self c.requires.1)
 
 pub slice_bounds-result-end : goal.slice_bounds-result-end
-slice_bounds-result-end c = field_high c.args.s.now c.args.self c.requires.1 c.piece_end-e.result c.requires.0
+slice_bounds-result-end c =
+    field_high c.args.s.now c.args.self c.requires.1 c.piece_end-e.result c.requires.0
     c.piece_end-e.ensures
 
 pub returns : goal.returns

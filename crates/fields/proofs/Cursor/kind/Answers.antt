@@ -28,11 +28,13 @@ with_moved (some v) d = refl
 with_moved none d = refl
 
 pub returns-then-end-at : goal.returns-then-end-at
-returns-then-end-at c = sym (ap (λ (fs : List (List ℕ)). kind_field (read_field kind_of c.args.self fs))
+returns-then-end-at c =
+    sym (ap (λ (fs : List (List ℕ)). kind_field (read_field kind_of c.args.self fs))
     (left_none c.args.s.now c.args.self c.requires c.if-end-at.true))
 
 -- the word that was read is the first field's
-here : (c : Lts.After-kind_word Tie.the-claims Reads.Pre Reads.Post) (w : KindWord) → c.kind_word.result ≡ w
+here : (c : Lts.After-kind_word Tie.the-claims Reads.Pre Reads.Post) (w : KindWord)
+    → c.kind_word.result ≡ w
     → kind_field (read_field kind_of c.args.self (fields_left c.args.s.now c.args.self))
     ≡ moved w (record {
       at = c.args.self.at + length c.field-f.result.now + 1;

@@ -27,11 +27,13 @@ with_moved (some v) d = refl
 with_moved none d = refl
 
 pub returns-then-end-at : goal.returns-then-end-at
-returns-then-end-at c = sym (ap (λ (fs : List (List ℕ)). number_field_of (read_field numeral_of c.args.self fs))
+returns-then-end-at c =
+    sym (ap (λ (fs : List (List ℕ)). number_field_of (read_field numeral_of c.args.self fs))
     (left_none c.args.s.now c.args.self c.requires c.if-end-at.true))
 
 -- the word that was read is the first field's
-here : (c : Lts.After-numeral Tie.the-claims Reads.Pre Reads.Post) (w : Number) → c.numeral.result ≡ w
+here : (c : Lts.After-numeral Tie.the-claims Reads.Pre Reads.Post) (w : Number)
+    → c.numeral.result ≡ w
     → number_field_of (read_field numeral_of c.args.self (fields_left c.args.s.now c.args.self))
     ≡ moved w (record {
       at = c.args.self.at + length c.field-f.result.now + 1;

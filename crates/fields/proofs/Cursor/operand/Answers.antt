@@ -29,11 +29,13 @@ with_moved (some v) d = refl
 with_moved none d = refl
 
 pub returns-then-end-at : goal.returns-then-end-at
-returns-then-end-at c = sym (ap (λ (fs : List (List ℕ)). operand_field (read_field operand_of c.args.self fs))
+returns-then-end-at c =
+    sym (ap (λ (fs : List (List ℕ)). operand_field (read_field operand_of c.args.self fs))
     (left_none c.args.s.now c.args.self c.requires c.if-end-at.true))
 
 -- the word that was read is the first field's
-here : (c : Lts.After-operand_word Tie.the-claims Reads.Pre Reads.Post) (w : OperandWord) → c.operand_word.result ≡ w
+here : (c : Lts.After-operand_word Tie.the-claims Reads.Pre Reads.Post) (w : OperandWord)
+    → c.operand_word.result ≡ w
     → operand_field (read_field operand_of c.args.self
     (fields_left c.args.s.now c.args.self))
     ≡ moved w (record {

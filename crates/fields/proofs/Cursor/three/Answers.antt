@@ -54,7 +54,8 @@ pub returns-in_default-number : goal.returns-in_default-number
 returns-in_default-number c =
     let p = sym c.in-Is.is ∙ c.number.ensures in
     (stage1 c.args.s.now c.args.self _ _ p).0
-    ∙ number_bad none (with_second c.in-Is.x) c.args.s.now c.in-Is.d (sym c.in_default-number.is ∙ c.number-2.ensures)
+    ∙ number_bad none (with_second c.in-Is.x) c.args.s.now c.in-Is.d
+    (sym c.in_default-number.is ∙ c.number-2.ensures)
 
 pub number-requires-3 : goal.number-requires-3
 number-requires-3 c =
