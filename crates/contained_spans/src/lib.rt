@@ -65,8 +65,7 @@ fn add_kids(reach: &mut [u64], n: usize, c: Clause, start: usize, len: usize, le
 }
 
 // Put in what lies beneath the clause, with `left` tokens on its left, where it fits the span so.
-// In
-// how many ways does it?
+// In how many ways does it?
 fn try_left(
     words: &[u64],
     reach: &mut [u64],

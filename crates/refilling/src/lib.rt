@@ -194,8 +194,7 @@ fn find(kept: &[u64], g: Grammar, k: SpanMarks, start: usize, len: usize) -> Pai
 // ---- rows and columns turned over
 
 // Turn the bit `c` over in the words for the members of the set; the words stand from `p` on, a
-// pair
-// for each nonterminal.
+// pair for each nonterminal.
 fn turn_bits(words: &mut [u64], p: usize, set: u64, c: u8)
     requires { (c < 64) × (p + 127 ≤ length words.old) }
     ensures { TurnBits words.old words.new p set c }

@@ -1,6 +1,5 @@
 -- `call_sheets::share_call` meets its contract: after three numbers, what the sheet names is what
--- the
--- definition says of the fields left.
+-- the definition says of the fields left.
 use mathlib.Core.Path.{sym, ◌∙◌}
 use native.Mathlib.Omega.{arith}
 use Rattle.fields.specs.Cursors.{fields_left}
@@ -21,11 +20,13 @@ returns-then-d c =
     let a = c.args in
     let t = c.in-Are.ensures in
     sym (three_good Call.Not share_end (fields_left a.s.now a.c) _ t.0
-    ∙ end_bad Call.Not _ a.s.now c.in-Are.d (omega (arith, t.1, c.requires)) c.if-d.true)
+    ∙ end_bad Call.Not _ a.s.now c.in-Are.d (omega (arith, t.1, c.requires))
+    (omega (arith, c.if-d.true)))
 
 pub returns : goal.returns
 returns c =
     let a = c.args in
     let t = c.in-Are.ensures in
     sym (three_good Call.Not share_end (fields_left a.s.now a.c) _ t.0
-    ∙ end_good Call.Not _ a.s.now c.in-Are.d (omega (arith, t.1, c.requires)) c.if-d.false)
+    ∙ end_good Call.Not _ a.s.now c.in-Are.d (omega (arith, t.1, c.requires))
+    (omega (arith, c.if-d.false)))

@@ -3,6 +3,7 @@ use mathlib.Core.Path.{◌≡◌, ap, ◌∙◌}
 use mathlib.Core.List.{List}
 use Prim.Native.Nat.{ℕ}
 use native.Mathlib.Omega.{arith}
+use lib.ListN.{length}
 use Rattle.fields.specs.Pieces.{pieces}
 use Rattle.sheets.specs.RefusedLines.{piece_start}
 use Rattle.mark_change.specs.Changed.{line_of}
@@ -41,8 +42,9 @@ slice_bounds-line-end c =
 
 pub piece_start-k-requires : goal.piece_start-k-requires
 piece_start-k-requires c =
-    rw (line_bytes c.args.s.now c.args.p c.requires.0
-    c.piece_start-at.ensures c.line-c.ensures) c.requires.1
+    let same = ap (λ (x : List ℕ). length (pieces 32 x))
+    (line_bytes c.args.s.now c.args.p c.requires.0 c.piece_start-at.ensures c.line-c.ensures) in
+    omega (arith, same, c.requires.1)
 
 -- where the lay begins in its line
 inner : (c : After-piece_start-k)

@@ -1,6 +1,5 @@
 -- `fields::Cursor::three` meets its contract: after each field, what there is is what the
--- definition
--- says of the fields left.
+-- definition says of the fields left.
 use mathlib.Core.Path.{◌≡◌, sym, ◌∙◌}
 use mathlib.Core.List.{List}
 use Prim.Native.Nat.{ℕ}
