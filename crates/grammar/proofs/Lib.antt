@@ -16,3 +16,4 @@ pub mod SweepLaws
 pub mod Atoms
 pub mod Positions
 pub mod Unmarked
+pub mod SentenceLaws
