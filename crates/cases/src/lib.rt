@@ -2,7 +2,8 @@
 // length; byte 10), then the input.
 #![tactic(auto)]
 
-ghost use Rattle.std.specs.Prelude.{◌+◌, ◌≤◌, length, IfOk};
+ghost use Rattle.std.specs.Prelude.{◌+◌, ◌≤◌, ℕ, List, length, IfOk, OnErr};
+ghost use Rattle.std.specs.Io.KnownBytes.{Consumes};
 
 use std::io;
 use std::io::Read;
@@ -36,9 +37,11 @@ pub fn five(s: &[u8], at: usize) -> usize
 }
 
 // The next case's input is put in front; its length, or 100,000 where there is no more case, or no
-// room for it. A read that fails is no end: it is handed on.
+// room for it. A read that fails is no end: it is handed on, and bytes in front may have been read.
 pub fn next_case<R: Read>(from: &mut R, space: &mut [u8]) -> io::Result<usize>
-    ensures { IfOk result (λ n. n ≤ 100000) }
+    ensures upper_bound { IfOk result (λ n. n ≤ 100000) }
+    ensures failed { OnErr result
+        ((bs : List ℕ) × Consumes (R.remaining from.old) (R.remaining from.new) bs) }
 {
     let mut head = [0u8; 6];
     let got = read_full(from, &mut head)?;

@@ -7,7 +7,7 @@
 // which the program does not write.
 #![tactic(auto)]
 
-ghost use Rattle.std.specs.Prelude.{◌≤◌, length, IfOk};
+ghost use Rattle.std.specs.Prelude.{◌≡◌, ◌≤◌, length, IfOk, OnErr};
 
 use call_clauses::refused_line;
 use calling::calls_text;
@@ -73,7 +73,8 @@ fn write_line<'a, R: Print>(rt: &R, clauses: &'a [u8], tokens: &'a [u8]) -> io::
 // letter, the user, the rule and the lengths of the first two parts, five digits each.
 fn parts<R: Print>(rt: &R, case: &[u8], out: &mut [u8]) -> io::Result<usize>
     requires { 262144 ≤ length out.old }
-    ensures { IfOk result (λ n. n ≤ length out.new) }
+    ensures within { IfOk result (λ n. n ≤ length out.new) }
+    ensures failed { OnErr result (out.new ≡ out.old) }
 {
     if case.len() < 26 {
         return Ok(0);
@@ -101,7 +102,8 @@ fn parts<R: Print>(rt: &R, case: &[u8], out: &mut [u8]) -> io::Result<usize>
 
 // The output of a case, and its length; 0 where it is written already.
 fn output<R: Print>(rt: &R, case: &[u8], out: &mut [u8; OUTPUT]) -> io::Result<usize>
-    ensures { IfOk result (λ n. n ≤ length out.new) }
+    ensures within { IfOk result (λ n. n ≤ length out.new) }
+    ensures failed { OnErr result (out.new ≡ out.old) }
 {
     if case.len() < 1 {
         return Ok(0);

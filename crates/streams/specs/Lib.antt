@@ -1,1 +1,2 @@
 pub mod AtMostMoved
+pub mod SomeMoved

@@ -2,9 +2,10 @@
 // taken for the end.
 #![tactic(auto)]
 
-ghost use Rattle.std.specs.Prelude.{◌<◌, length, take, IfOk, OnOk};
+ghost use Rattle.std.specs.Prelude.{◌<◌, length, take, IfOk, OnOk, OnErr};
 ghost use Rattle.std.specs.Io.KnownBytes.{Appends, Consumes, IsAtEnd, ReadConsumes, WriteAppends};
 ghost use Rattle.streams.specs.AtMostMoved.{AtMostMoved};
+ghost use Rattle.streams.specs.SomeMoved.{SomeRead, SomeWritten};
 
 use std::io;
 use std::io::{ErrorKind, Input, Read, Write};
@@ -29,12 +30,13 @@ fn read_once<R: Read>(from: &mut R, buf: &mut [u8]) -> io::Result<usize>
 }
 
 // Reads to the end of the input or of the buffer; how many bytes stand at the front of the buffer
-// then.
+// then. Where a read fails, what was read before it stands there.
 pub fn read_full<R: Read>(from: &mut R, buf: &mut [u8]) -> io::Result<usize>
     ensures bound { AtMostMoved (length buf.new) result }
     ensures bytes { IfOk result
         (λ n. Consumes (R.remaining from.old) (R.remaining from.new) (take n buf.new)) }
     ensures end { IfOk result (λ n. n < length buf.new → IsAtEnd (R.remaining from.new)) }
+    ensures failed { OnErr result (SomeRead (R.remaining from.old) (R.remaining from.new) buf.new) }
 {
     let mut done = 0;
     while done < buf.len() {
@@ -65,9 +67,11 @@ fn write_once<W: Write>(to: &mut W, buf: &[u8]) -> io::Result<usize>
     Err(io::Error::from(ErrorKind::Interrupted))
 }
 
-// Writes all of the bytes; an error where a write fails or takes nothing.
+// Writes all of the bytes; an error where a write fails or takes nothing. Then a front of them was
+// written.
 pub fn write_full<W: Write>(to: &mut W, buf: &[u8]) -> io::Result<()>
-    ensures { OnOk result (Appends (W.contents to.old) (W.contents to.new) buf.now) }
+    ensures whole { OnOk result (Appends (W.contents to.old) (W.contents to.new) buf.now) }
+    ensures failed { OnErr result (SomeWritten (W.contents to.old) (W.contents to.new) buf.now) }
 {
     let mut done = 0;
     while done < buf.len() {
