@@ -98,7 +98,7 @@ mod tests {
     const RULES: &[u8] = b"left kind first second lay\n0 B 0 0 none\n0 A 0 - none\n";
     const TOKENS: &[u8] = b"term line col\n0 1 1\n0 1 2\n0 1 3\n";
 
-    /// Document 01's worked example, asked in every call, with its answers.
+    /// The worked example of docs/FORMAT.md, asked in every call, with its answers.
     fn worked() -> [(String, String); 9] {
         let (rules, tokens) = (hexed(RULES), hexed(TOKENS));
         let words = "words 0 0 1 0 1 0 1 0 1 0 1 0 1 1";
