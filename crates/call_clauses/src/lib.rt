@@ -54,7 +54,9 @@ pub fn sweep(clauses: &[u8], bound: usize, words: &mut [u64]) -> SweepReply
     sweep_read(read_clauses(clauses), bound, words)
 }
 
-// The rule sheet of rules that were read, given as a list of its bytes.
+// The rule sheet of rules that were read, given as a list of its bytes. On its own, so that its
+// buffer does not take stack beneath the readers, which call each other.
+#[inline(never)]
 fn expanded(g: Grammar, out: &mut [u8]) -> ListReply
     requires { Formed g }
     ensures { ListOn Answer.Given (sheet_text (rulesOf g)) (length (sheet_text (rulesOf g)))
