@@ -103,6 +103,7 @@ fn on_one(call: OneSheet, s: &[u8], out: &mut [u8]) -> usize
 }
 
 // The answer to a call that is not the test at every length.
+#[inline(never)]
 fn on_sheets(call: Sheets, sheet: &[u8], s: &[u8], out: &mut [u8]) -> usize
     requires in_bounds { 262144 ≤ length out.old }
     requires sheets_inside { SheetsInside (length sheet.now) call }
