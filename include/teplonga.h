@@ -21,11 +21,11 @@
  * 40 KB at least, and so does an expansion: its readers call each other, most deeply in groups within
  * groups. TEPLONGA_STACK bytes are enough for any call.
  *
- * Time: a verdict takes less than a millisecond on the largest sheets, its trees some milliseconds.
- * Columns of 64 tokens with 65,536 choices take a tenth of a second where what may and what must hold
- * settles them; where each choice has to be looked at, nearly as long as that many verdicts. The worst
- * sweep known takes about a second; no bound is claimed, and it cannot be interrupted, so run it in a
- * thread or a process that may be given up.
+ * Time, as measured with an older kit: a verdict takes less than a millisecond on the largest sheets,
+ * its trees some milliseconds. Columns of 64 tokens with 65,536 choices take a tenth of a second where
+ * what may and what must hold settles them; where each choice has to be looked at, nearly as long as
+ * that many verdicts. The worst sweep known takes about a second; no bound is claimed, and it cannot
+ * be interrupted, so run it in a thread or a process that may be given up.
  */
 #ifndef TEPLONGA_H
 #define TEPLONGA_H
