@@ -303,10 +303,6 @@ pub is_number : (o : Option ℕ) (v : ℕ) → as_number o ≡ Number.Is v → o
 is_number none v e = absurd (clash cc)
 is_number (some w) v e = let z : w ≡ v = cc in ap some z
 
-pub is_not : (o : Option ℕ) → as_number o ≡ Number.Not → o ≡ none
-is_not none e = refl
-is_not (some w) e = absurd (clash cc)
-
 pub numbers_low : (o : Option ℕ) (v : ℕ) → o ≡ some v → v ≤ 63 → Numbers o v
 numbers_low o v e h = record { is = λ l. e; isnt = λ l f k. absurd (omega arith) }
 
@@ -317,18 +313,12 @@ numbers_high o v e h = record {
       ∙ miss (lt-leb v 63 h) _ _;
 }
 
-pub numbers_none : (o : Option ℕ) → o ≡ none → Numbers o 64
-numbers_none o e = record { is = λ l. absurd (omega arith); isnt = λ l f k. ap (ranged f k) e }
-
 -- the number that a field's answer gives
 pub number_low : (o : Option ℕ) (v : ℕ) → Number.Is v ≡ as_number o → v ≤ 63 → Numbers o v
 number_low o v e h = numbers_low o v (is_number o v (sym e)) h
 
 pub number_high : (o : Option ℕ) (v : ℕ) → Number.Is v ≡ as_number o → 63 < v → Numbers o 64
 number_high o v e h = numbers_high o v (is_number o v (sym e)) h
-
-pub number_none : (o : Option ℕ) → Number.Not ≡ as_number o → Numbers o 64
-number_none o e = numbers_none o (is_not o (sym e))
 
 module _ (s : List ℕ) (at e v : ℕ) (h : e ≡ at + 1 + length (front_digits (drop (at + 1) s)))
     (g : Numbers (numeral_of (take (e - (at + 1)) (drop (at + 1) s))) v) where

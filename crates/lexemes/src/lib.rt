@@ -79,7 +79,7 @@ fn digits_end(s: &[u8], at: usize) -> usize
 }
 
 // A number 0 to 63 as in rule sheets, or 64 for no such number.
-#[tactic(auto, using(crate::proofs::Laws::number_low, crate::proofs::Laws::number_high, crate::proofs::Laws::number_none))]
+#[tactic(auto, using(crate::proofs::Laws::number_low, crate::proofs::Laws::number_high))]
 fn number(f: &[u8]) -> u8
     ensures { Numbers (numeral_of f.now) result }
 {
