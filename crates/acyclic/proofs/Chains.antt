@@ -1,7 +1,7 @@
 -- What chains reach: what a rule adds is reached, and a set to which no rule adds has all of it. A
 -- sheet in which none reaches itself is not cyclic.
 use mathlib.Core.Path.{◌≡◌, refl}
-use mathlib.Core.Logic.{◌⊎◌, inl, inr, ⊎_elim}
+use mathlib.Core.Logic.{◌⊎◌, inl, inr}
 use mathlib.Core.List.{Memᴰ}
 use Prim.Native.Nat.{ℕ, ◌+◌, ◌≤◌, ◌<◌}
 use native.Mathlib.Omega.{arith}
@@ -10,7 +10,6 @@ use Rattle.sets.specs.Sets.{In}
 use Rattle.sets.proofs.Sets.{in_zero}
 use Rattle.grammar.specs.declared.Rule.{Rule}
 use Rattle.grammar.specs.declared.Grammar.{Grammar}
-use Rattle.grammar.specs.declared.Clause.{Clause}
 use Rattle.grammar.specs.Trees.{Rules}
 use Rattle.grammar.specs.Cycles.{Nullable, Edge, by_unary, by_left, by_right, Chain, one, more}
 use Rattle.grammar.specs.Cycles.{Cyclic}
@@ -21,32 +20,14 @@ use Rattle.acyclic.specs.Passes.{LeadsTo, AddsTargets}
 
 -- ns are the nullable nonterminals
 module _ {g : Rules} {ns : ℕ} (x : Exactly ns (Nullable g)) where
-  edge_by : (A : ℕ) (c : Clause) (Y : ℕ) → Memᴰ (record { left = A; clause = c }) g
-      → LeadsTo ns c Y → Edge g A Y
-  edge_by A Clause.Empty Y m h = elim h [ ]
-  edge_by A (Clause.Atom _ _) Y m h = elim h [ ]
-  edge_by A (Clause.Unary B k) Y m h = rw h at (by_unary k m)
-  edge_by A (Clause.Binary B C k) Y m (inl h) = rw h.0 at (by_left C k m (x.is C h.1))
-  edge_by A (Clause.Binary B C k) Y m (inr h) = rw h.0 at (by_right B k m (x.is B h.1))
-
   of_edge : {A Y : ℕ} → Edge g A Y
       → (r : Rule) × Memᴰ r g × (r.left ≡ A) × LeadsTo ns r.clause Y
   of_edge (by_unary k m) = (_, m, refl, refl)
   of_edge (by_left C k m n) = (_, m, refl, inl (refl, x.all C n))
   of_edge (by_right B k m n) = (_, m, refl, inr (refl, x.all B n))
 
-  snoc : {A B C : ℕ} → Chain g A B → Edge g B C → Chain g A C
-  snoc (one e) f = more e (one f)
-  snoc (more e c) f = more e (snoc c f)
-
   pub chain_none : (a Y : ℕ) → In 0 Y → Chain g a Y
   chain_none a Y i = absurd (in_zero Y i)
-
-  pub chain_sound : (a s : ℕ) → ((Y : ℕ) → In s Y → Chain g a Y) → (r : Rule) → Memᴰ r g
-      → (Y : ℕ) → AddsTargets ns a s r Y → Chain g a Y
-  chain_sound a s h r m Y t =
-      let e = edge_by r.left r.clause Y m t.1 in
-      ⊎_elim (λ i. one (rw i at e)) (λ i. snoc (h r.left i) e) t.0
 
   -- s is closed
   module _ (a s : ℕ) (shut : (r : Rule) → Memᴰ r g → (Y : ℕ) → AddsTargets ns a s r Y

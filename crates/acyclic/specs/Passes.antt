@@ -1,5 +1,6 @@
 -- Predicates of inner functions only: what a rule adds to a set, and a pass over the rules.
 use Rattle.std.specs.Prelude.{◌≡◌, ◌⊎◌, ℕ, ◌≤◌, ◌<◌}
+use mathlib.Core.List.{Memᴰ}
 use Rattle.std.proofs.Math.Option.{some}
 use Rattle.std.proofs.Math.ListN.{get_elem?}
 use Rattle.sets.specs.Sets.{In}
@@ -23,6 +24,11 @@ pub record RulesPassed (Adds : ℕ → Rule → ℕ → Type 0) (P : ℕ → Typ
   pub sound : ((Y : ℕ) → In s Y → P Y) → (Y : ℕ) → In t Y → P Y
   pub still : t ≡ s → (q : ℕ) → q < p → (r : Rule) → get_elem? g q ≡ some r → (Y : ℕ) → Adds s r Y
       → In s Y
+
+-- the members of s have P, and no rule adds to it
+pub record Closed (Adds : ℕ → Rule → ℕ → Type 0) (P : ℕ → Type 0) (g : Rules) (s : ℕ) : Type 0 where
+  pub sound : (Y : ℕ) → In s Y → P Y
+  pub shut : (r : Rule) → Memᴰ r g → (Y : ℕ) → Adds s r Y → In s Y
 
 -- members of s make the clause's word empty
 abbrev pub Ready : ℕ → Clause → Type 0

@@ -6,12 +6,65 @@ ghost use Rattle.sets.specs.Sets.{In};
 ghost use Rattle.sets.specs.Says.{Says};
 ghost use Rattle.grammar.specs.Cycles.{Nullable, Chain, Cyclic};
 ghost use Rattle.grammar.specs.Content.{rules_of, SmallClause, SmallRule, Formed};
-ghost use Rattle.std.specs.Prelude.{◌≡◌, ◌<◌};
+ghost use Rattle.std.specs.Prelude.{◌≡◌, ◌<◌, ℕ};
+ghost use mathlib.Core.List.{Memᴰ};
+ghost use Rattle.grammar.specs.Trees.{Rules};
+ghost use Rattle.grammar.specs.declared.Rule.{Rule};
 ghost use Rattle.acyclic.specs.Exact.{Exactly};
-ghost use Rattle.acyclic.specs.Passes.{Extended, RulesPassed, Ready, AddsLeft, LeadsTo};
+ghost use Rattle.acyclic.specs.Passes.{Extended, RulesPassed, Closed, Ready, AddsLeft, LeadsTo};
 ghost use Rattle.acyclic.specs.Passes.{AddsTargets};
+ghost use Rattle.acyclic.specs.Sound.{null_sound, chain_sound};
 
 use grammar::{Clause, Grammar, Rule};
+
+// What a rule adds to a set of nonterminals, on the way to those with a property.
+pub trait Adding {
+    // The rule adds a nonterminal to the set.
+    ghost adds: { Self → ℕ → Rule → ℕ → Type 0 };
+
+    // The property that nonterminals have by the rules.
+    ghost aim: { Self → Rules → ℕ → Type 0 };
+
+    // What is known of the rules.
+    ghost fits: { Self → Rules → Type 0 };
+
+    // The set with what the rule adds besides.
+    fn with_rule(&self, set: u64, r: Rule) -> u64
+        requires { SmallRule r }
+        ensures { Extended (adds self.now set r) set result };
+
+    // What is added to a set whose members have the property has it.
+    ghost sound: { (x : Self) (g : Rules) → fits x g → (s : ℕ) → ((Y : ℕ) → In s Y → aim x g Y)
+        → (r : Rule) → Memᴰ r g → (Y : ℕ) → adds x s r Y → aim x g Y };
+}
+
+// One pass over the rules.
+fn pass<A: Adding>(g: Grammar, x: &A, set: u64) -> u64
+    requires { Formed g × A.fits x.now (rules_of g) }
+    ensures { RulesPassed (A.adds x.now) (A.aim x.now (rules_of g)) (rules_of g) g.count set
+        result }
+{
+    let mut next = set;
+    for p in 0..g.count {
+        next = x.with_rule(next, g.rules[p]);
+    }
+    next
+}
+
+// The set to which no rule adds, from the empty one: passes until one adds nothing.
+pub fn closed<A: Adding>(g: Grammar, x: &A) -> u64
+    requires { Formed g × A.fits x.now (rules_of g) }
+    ensures { Closed (A.adds x.now) (A.aim x.now (rules_of g)) (rules_of g) result }
+{
+    let mut set: u64 = 0;
+    loop {
+        let next = pass(g, x, set);
+        if next == set {
+            return set;
+        }
+        set = next;
+    }
+}
 
 // Do members of the set make the clause's word empty?
 pub fn ready(set: u64, c: Clause) -> bool
@@ -44,35 +97,30 @@ fn with_left(set: u64, r: Rule) -> u64
     set
 }
 
-// One pass over the rules towards the nullable nonterminals.
-fn null_pass(g: Grammar, set: u64) -> u64
-    requires { Formed g }
-    ensures { RulesPassed AddsLeft (Nullable (rules_of g)) (rules_of g) g.count set result }
-{
-    let count = g.count;
-    let mut next = set;
-    let mut p: usize = 0;
-    while p < count {
-        let rule = g.rules[p];
-        next = with_left(next, rule);
-        p += 1;
+// Towards the nullable nonterminals.
+#[derive(Clone, Copy)]
+struct Empties;
+
+impl Adding for Empties {
+    ghost adds = { λ x. AddsLeft };
+
+    ghost aim = { λ x g. Nullable g };
+
+    ghost fits = { λ x g. Unit {0} };
+
+    ghost sound = { λ x g f. null_sound };
+
+    fn with_rule(&self, set: u64, r: Rule) -> u64 {
+        with_left(set, r)
     }
-    next
 }
 
-// The nullable nonterminals: passes until one adds nothing.
+// The nullable nonterminals.
 pub fn nullables(g: Grammar) -> u64
     requires { Formed g }
     ensures { Exactly result (Nullable (rules_of g)) }
 {
-    let mut set: u64 = 0;
-    loop {
-        let next = null_pass(g, set);
-        if next == set {
-            return set;
-        }
-        set = next;
-    }
+    closed(g, &Empties)
 }
 
 // The set with b besides, where d is nullable.
@@ -118,36 +166,33 @@ fn spread(nulls: u64, a: u8, set: u64, r: Rule) -> u64
     set
 }
 
-// One pass over the rules towards what chains from a reach.
-fn reach_pass(g: Grammar, nulls: u64, a: u8, set: u64) -> u64
-    requires { Formed g × Exactly nulls (Nullable (rules_of g)) }
-    ensures { RulesPassed (AddsTargets nulls a) (Chain (rules_of g) a) (rules_of g) g.count set
-        result }
-{
-    let count = g.count;
-    let mut next = set;
-    let mut p: usize = 0;
-    while p < count {
-        let rule = g.rules[p];
-        next = spread(nulls, a, next, rule);
-        p += 1;
-    }
-    next
+// Towards what chains from a nonterminal reach; `nulls` are the nullable ones.
+#[derive(Clone, Copy)]
+struct Chained {
+    nulls: u64,
+    from: u8,
 }
 
-// The nonterminals that chains from a reach: passes until one adds nothing.
+impl Adding for Chained {
+    ghost adds = { λ x. AddsTargets x.nulls x.from };
+
+    ghost aim = { λ x g. Chain g x.from };
+
+    ghost fits = { λ x g. Exactly x.nulls (Nullable g) };
+
+    ghost sound = { λ x g f. chain_sound f x.from };
+
+    fn with_rule(&self, set: u64, r: Rule) -> u64 {
+        spread(self.nulls, self.from, set, r)
+    }
+}
+
+// The nonterminals that chains from a reach.
 fn reach(g: Grammar, nulls: u64, a: u8) -> u64
     requires { Formed g × Exactly nulls (Nullable (rules_of g)) }
     ensures { Exactly result (Chain (rules_of g) a) }
 {
-    let mut set: u64 = 0;
-    loop {
-        let next = reach_pass(g, nulls, a, set);
-        if next == set {
-            return set;
-        }
-        set = next;
-    }
+    closed(g, &Chained { nulls, from: a })
 }
 
 // Does some chain of edges return to where it began?
@@ -156,13 +201,11 @@ pub fn cyclic(g: Grammar) -> bool
     ensures { Says result (Cyclic (rules_of g)) }
 {
     let nulls = nullables(g);
-    let mut a: u8 = 0;
-    while a < 64 {
+    for a in 0u8..64 {
         let reached = reach(g, nulls, a);
         if sets::has(reached, a) {
             return true;
         }
-        a += 1;
     }
     false
 }

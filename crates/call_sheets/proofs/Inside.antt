@@ -2,7 +2,7 @@
 use mathlib.Core.Path.{◌≡◌, refl}
 use mathlib.Core.Bool.{Bool, true, false, cond}
 use mathlib.Core.List.{List, [], ◌∷◌}
-use mathlib.Core.Option.{Option, none, some}
+use Rattle.std.specs.Prelude.{Option, None, Some}
 use Prim.Native.Nat.{ℕ, ◌-◌, ◌<◌}
 use native.Mathlib.Omega.{arith}
 use lib.ListN.{length}
@@ -25,35 +25,36 @@ use Rattle.call_sheets.specs.CallSheets.{show_call_of}
 use Rattle.call_sheets.proofs.Laws.{begins_long}
 
 module _ (m : ℕ) where
-  either : (b : Bool) (x y : Call) → Inside m x → Inside m y → Inside m (cond b x y)
+  either : (b : Bool) (x y : Option Call) → Inside m x → Inside m y → Inside m (cond b x y)
   either true x y p q = p
   either false x y p q = q
 
-  numbered : (o : Option ℕ) (k : ℕ → Call) → ((v : ℕ) → Inside m (k v)) → Inside m (with_number o k)
-  numbered (some v) k h = h v
-  numbered none k h = tt
+  numbered : (o : Option ℕ) (k : ℕ → Option Call) → ((v : ℕ) → Inside m (k v))
+      → Inside m (with_number o k)
+  numbered (Some v) k h = h v
+  numbered None k h = tt
 
   share_inside : (fs : List (List ℕ)) → Inside m (share_call_of fs)
   share_inside =
-      with_holds (Inside m) Call.Not tt numeral_of share_second
-      (λ n. with_holds (Inside m) Call.Not tt numeral_of (share_third n)
-      (λ p. with_holds (Inside m) Call.Not tt numeral_of (share_end n p)
-      (λ i. end_holds (Inside m) Call.Not tt (on_one (OneSheet.Share n p i)) tt)))
+      with_holds (Inside m) None tt numeral_of share_second
+      (λ n. with_holds (Inside m) None tt numeral_of (share_third n)
+      (λ p. with_holds (Inside m) None tt numeral_of (share_end n p)
+      (λ i. end_holds (Inside m) None tt (on_one (OneSheet.Share n p i)) tt)))
 
   end_inside : 0 < m → (u r : ℕ) (fs : List (List ℕ)) → Inside m (change_end m u r fs)
   end_inside h u r [] = tt
   end_inside h u r (f ∷ []) =
-      either (broken f) Call.Not (on_two (TwoSheets.Change u r (m - 1 - length f))) tt (omega arith)
+      either (broken f) None (on_two (TwoSheets.Change u r (m - 1 - length f))) tt (omega arith)
   end_inside h u r (f ∷ g ∷ fs) = tt
 
   change_inside : 0 < m → (fs : List (List ℕ)) → Inside m (change_call_of m fs)
-  change_inside h = with_holds (Inside m) Call.Not tt numeral_of (change_second m)
-      (λ u. with_holds (Inside m) Call.Not tt numeral_of (change_end m u) (end_inside h u))
+  change_inside h = with_holds (Inside m) None tt numeral_of (change_second m)
+      (λ u. with_holds (Inside m) None tt numeral_of (change_end m u) (end_inside h u))
 
 always_inside : (m : ℕ) (s : List ℕ) → Inside m (always_call s)
 always_inside m s =
-    either m (same_bytes s always_sheet) Call.Always _ tt
-    (either m (same_bytes s clauses_always_sheet) Call.ClausesAlways Call.Not tt tt)
+    either m (same_bytes s always_sheet) (Some Call.Always) _ tt
+    (either m (same_bytes s clauses_always_sheet) (Some Call.ClausesAlways) None tt tt)
 
 numbered_inside : (s : List ℕ) → Inside (length s) (numbered_call s)
 numbered_inside s =

@@ -1,42 +1,20 @@
 -- Bytes that are one field, and what is left of a call sheet's line.
-use mathlib.Core.Path.{◌≡◌, refl, ap}
+use mathlib.Core.Path.{◌≡◌, refl}
 use mathlib.Core.Bool.{Bool, true, false}
 use mathlib.Core.List.{List, [], ◌∷◌}
-use mathlib.Core.Option.{Option, none, some}
-use Prim.Native.Nat.{ℕ, ◌+◌, ◌-◌, ◌≤◌, ◌<◌}
-use native.Mathlib.Numerals.{add-one}
+use Rattle.std.specs.Prelude.{None}
+use Prim.Native.Nat.{ℕ, ◌+◌, ◌-◌, ◌≤◌}
 use native.Mathlib.Omega.{arith}
-use borrow.Author.Tests.{eq-eqb, ne_eqb, leb-true}
+use borrow.Author.Tests.{leb-true}
 use lib.Dec.{eqb, leb}
-use lib.ListN.{length, drop, get_or, drop_of_length-le}
-use lib.Seq.{drop-cons}
+use lib.ListN.{length}
 use Rattle.fields.specs.Pieces.{pieces, onto}
-use Rattle.fields.specs.declared.Number.{Number}
-use Rattle.fields.specs.Answers.{as_number}
-use Rattle.call_sheets.specs.declared.Call.{Call}
 use Rattle.call_sheets.specs.declared.TwoSheets.TheVariants as TwoSheets
 use Rattle.call_sheets.specs.CallSheets.{on_two}
-use Rattle.call_sheets.specs.CallSheets.{begins_with, broken, change_end, with_number}
+use Rattle.call_sheets.specs.CallSheets.{begins_with, broken, change_end}
 use Rattle.call_sheets.specs.OneField.{one_field_of}
 
--- 1. the loop over a field's bytes
-
-module _ (f : List ℕ) (i : ℕ) (h : i < length f) where
-  pub field_blank : get_or f i 0 ≡ 32 → one_field_of (drop i f) ≡ false
-  field_blank e = rw (drop-cons f i 0 h, e)
-
-  pub field_break : (get_or f i 0 ≡ 32 → ⊥) → get_or f i 0 ≡ 10 → one_field_of (drop i f) ≡ false
-  field_break n e = rw (drop-cons f i 0 h, ne_eqb (get_or f i 0) 32 n, eq-eqb (get_or f i 0) 10 e)
-
-  pub field_more : (get_or f i 0 ≡ 32 → ⊥) → (get_or f i 0 ≡ 10 → ⊥)
-      → one_field_of (drop i f) ≡ one_field_of (drop (i + 1) f)
-  field_more n m =
-      rw (add-one i, drop-cons f i 0 h, ne_eqb (get_or f i 0) 32 n, ne_eqb (get_or f i 0) 10 m)
-
-pub field_end : (f : List ℕ) (i : ℕ) → length f ≤ i → one_field_of (drop i f) ≡ true
-field_end f i h = rw (drop_of_length-le f {i = i} h)
-
--- 2. one field left
+-- 1. one field left
 
 -- not exactly one field, or one with a byte 10
 abbrev bad : List (List ℕ) → Bool
@@ -44,7 +22,7 @@ bad [] = true
 bad (f ∷ []) = broken f
 bad (f ∷ g ∷ fs) = true
 
-pub end_not : (m u r : ℕ) (fs : List (List ℕ)) → bad fs ≡ true → change_end m u r fs ≡ Call.Not
+pub end_not : (m u r : ℕ) (fs : List (List ℕ)) → bad fs ≡ true → change_end m u r fs ≡ None
 end_not m u r [] e = refl
 end_not m u r (f ∷ []) e = rw e
 end_not m u r (f ∷ g ∷ fs) e = refl
@@ -106,18 +84,7 @@ pub end_one : (m u r : ℕ) (t : List ℕ) → one_field_of t ≡ true
     → change_end m u r (pieces 32 t) ≡ on_two (TwoSheets.Change u r (m - 1 - length t))
 end_one m u r t e = let q = left_one t e in rw (q.0, q.1)
 
--- 3. a number by itself
-
-pub with_is : (o : Option ℕ) (k : ℕ → Call) (v : ℕ) → Number.Is v ≡ as_number o
-    → with_number o k ≡ k v
-with_is (some x) k v e = let p : x ≡ v = cc in ap k p
-with_is none k v e = let z : ◌≡◌ {A = ℕ} 0 1 = cc in absurd (omega arith)
-
-pub with_not : (o : Option ℕ) (k : ℕ → Call) → Number.Not ≡ as_number o → with_number o k ≡ Call.Not
-with_not (some x) k e = let z : ◌≡◌ {A = ℕ} 0 1 = cc in absurd (omega arith)
-with_not none k e = refl
-
--- 4. a sheet that begins so is longer than its beginning
+-- 2. a sheet that begins so is longer than its beginning
 
 pub begins_long : (start s : List ℕ) → begins_with start s ≡ true → length start + 1 ≤ length s
 begins_long start s e = go (leb (length start + 1) (length s)) refl

@@ -1,7 +1,7 @@
 -- The call sheet of the program `calls`: a line of names, then a line of values, both ended.
 use Rattle.std.specs.Prelude.{Bool, false, cond, ◌&&◌, ◌||◌, List, [], ◌∷◌, ℕ, ◌+◌, ◌-◌, eqb, leb}
 use Rattle.std.specs.Prelude.{length, get_or, take, drop}
-use Rattle.std.proofs.Math.Option.{Option, none, some}
+use Rattle.std.specs.Prelude.{Option, None, Some}
 use Rattle.fields.specs.Pieces.{pieces, same_bytes}
 use Rattle.fields.specs.Words.{numeral_of}
 use Rattle.fields.specs.Fields.{with_field, at_end_of}
@@ -10,11 +10,11 @@ use Rattle.call_sheets.specs.declared.Sheets.TheVariants as Sheets
 use Rattle.call_sheets.specs.declared.OneSheet.{OneSheet}
 use Rattle.call_sheets.specs.declared.TwoSheets.{TwoSheets}
 
-abbrev pub on_one : OneSheet → Call
-on_one c = Call.On (Sheets.One c)
+abbrev pub on_one : OneSheet → Option Call
+on_one c = Some (Call.On (Sheets.One c))
 
-abbrev pub on_two : TwoSheets → Call
-on_two c = Call.On (Sheets.Two c)
+abbrev pub on_two : TwoSheets → Option Call
+on_two c = Some (Call.On (Sheets.Two c))
 
 -- 1. calls without numbers: the whole sheet
 
@@ -90,29 +90,29 @@ abbrev pub values : List ℕ → List ℕ → List ℕ
 values start s = take (length s - 1 - length start) (drop (length start) s)
 
 -- the value of a number's field, or no call
-abbrev pub with_number : Option ℕ → (ℕ → Call) → Call
-with_number (some v) k = k v
-with_number none k = Call.Not
+abbrev pub with_number : Option ℕ → (ℕ → Option Call) → Option Call
+with_number (Some v) k = k v
+with_number None k = None
 
 -- a sweep of a clause sheet; trees as shown to a user
-abbrev pub sweep_call : ℕ → Call
+abbrev pub sweep_call : ℕ → Option Call
 sweep_call k = on_one (OneSheet.ClausesSweep k)
 
-abbrev pub show_call_of : ℕ → Call
+abbrev pub show_call_of : ℕ → Option Call
 show_call_of u = on_two (TwoSheets.Show u)
 
 -- three numbers: length, racks, share
-abbrev pub share_end : ℕ → ℕ → ℕ → List (List ℕ) → Call
-share_end n p i fs = at_end_of Call.Not fs (on_one (OneSheet.Share n p i))
+abbrev pub share_end : ℕ → ℕ → ℕ → List (List ℕ) → Option Call
+share_end n p i fs = at_end_of None fs (on_one (OneSheet.Share n p i))
 
-abbrev pub share_third : ℕ → ℕ → List (List ℕ) → Call
-share_third n p fs = with_field Call.Not numeral_of fs (share_end n p)
+abbrev pub share_third : ℕ → ℕ → List (List ℕ) → Option Call
+share_third n p fs = with_field None numeral_of fs (share_end n p)
 
-abbrev pub share_second : ℕ → List (List ℕ) → Call
-share_second n fs = with_field Call.Not numeral_of fs (share_third n)
+abbrev pub share_second : ℕ → List (List ℕ) → Option Call
+share_second n fs = with_field None numeral_of fs (share_third n)
 
-abbrev pub share_call_of : List (List ℕ) → Call
-share_call_of fs = with_field Call.Not numeral_of fs share_second
+abbrev pub share_call_of : List (List ℕ) → Option Call
+share_call_of fs = with_field None numeral_of fs share_second
 
 -- has the field a byte 10?
 abbrev pub broken : List ℕ → Bool
@@ -120,26 +120,26 @@ broken [] = false
 broken (x ∷ f) = eqb x 10 || broken f
 
 -- user, rule, and any one field in the line, of no bytes too: where it begins in a sheet of m bytes
-abbrev pub change_end : ℕ → ℕ → ℕ → List (List ℕ) → Call
-change_end m u r [] = Call.Not
+abbrev pub change_end : ℕ → ℕ → ℕ → List (List ℕ) → Option Call
+change_end m u r [] = None
 change_end m u r (f ∷ []) =
-    cond (broken f) Call.Not (on_two (TwoSheets.Change u r (m - 1 - length f)))
-change_end m u r (f ∷ g ∷ fs) = Call.Not
+    cond (broken f) None (on_two (TwoSheets.Change u r (m - 1 - length f)))
+change_end m u r (f ∷ g ∷ fs) = None
 
-abbrev pub change_second : ℕ → ℕ → List (List ℕ) → Call
-change_second m u fs = with_field Call.Not numeral_of fs (change_end m u)
+abbrev pub change_second : ℕ → ℕ → List (List ℕ) → Option Call
+change_second m u fs = with_field None numeral_of fs (change_end m u)
 
-abbrev pub change_call_of : ℕ → List (List ℕ) → Call
-change_call_of m fs = with_field Call.Not numeral_of fs (change_second m)
+abbrev pub change_call_of : ℕ → List (List ℕ) → Option Call
+change_call_of m fs = with_field None numeral_of fs (change_second m)
 
 -- 3. the call that a sheet names
 
-abbrev pub always_call : List ℕ → Call
+abbrev pub always_call : List ℕ → Option Call
 always_call s =
-    cond (same_bytes s always_sheet) Call.Always
-    (cond (same_bytes s clauses_always_sheet) Call.ClausesAlways Call.Not)
+    cond (same_bytes s always_sheet) (Some Call.Always)
+    (cond (same_bytes s clauses_always_sheet) (Some Call.ClausesAlways) None)
 
-abbrev pub numbered_call : List ℕ → Call
+abbrev pub numbered_call : List ℕ → Option Call
 numbered_call s =
     cond (begins_with bound_start s) (with_number (numeral_of (values bound_start s)) sweep_call)
     (cond (begins_with show_start s) (with_number (numeral_of (values show_start s)) show_call_of)
@@ -148,7 +148,7 @@ numbered_call s =
     (change_call_of (length s) (pieces 32 (values change_start s)))
     (always_call s))))
 
-abbrev pub call_of : List ℕ → Call
+abbrev pub call_of : List ℕ → Option Call
 call_of s =
     cond (same_bytes s clauses_sheet) (on_two TwoSheets.Clauses)
     (cond (same_bytes s expand_sheet) (on_one OneSheet.Expand)

@@ -1,5 +1,5 @@
 -- For inner functions: the new mark of a change begins within the call sheet.
-use Rattle.std.specs.Prelude.{ℕ, ◌<◌}
+use Rattle.std.specs.Prelude.{ℕ, ◌<◌, Option, None, Some}
 use Rattle.call_sheets.specs.declared.Call.{Call}
 use Rattle.call_sheets.specs.declared.Sheets.{Sheets}
 use Rattle.call_sheets.specs.declared.TwoSheets.{TwoSheets}
@@ -18,8 +18,8 @@ abbrev pub SheetsInside : ℕ → Sheets → Type 0
 SheetsInside m (Sheets.One c) = Unit {0}
 SheetsInside m (Sheets.Two c) = MarkInside m c
 
-abbrev pub Inside : ℕ → Call → Type 0
-Inside m Call.Always = Unit {0}
-Inside m Call.ClausesAlways = Unit {0}
-Inside m (Call.On c) = SheetsInside m c
-Inside m Call.Not = Unit {0}
+abbrev pub Inside : ℕ → Option Call → Type 0
+Inside m (Some Call.Always) = Unit {0}
+Inside m (Some Call.ClausesAlways) = Unit {0}
+Inside m (Some (Call.On c)) = SheetsInside m c
+Inside m None = Unit {0}

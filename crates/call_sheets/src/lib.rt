@@ -4,7 +4,6 @@
 
 ghost use Rattle.std.specs.Prelude.{◌≡◌, ◌+◌, ◌-◌, ◌≤◌, ◌<◌, length, take, drop};
 ghost use Rattle.fields.specs.Words.{numeral_of};
-ghost use Rattle.fields.specs.Answers.{as_number};
 ghost use Rattle.call_sheets.specs.CallSheets.{call_of, numbered_call, always_call, with_number};
 ghost use Rattle.call_sheets.specs.CallSheets.{share_call_of, change_call_of, sweep_call};
 ghost use Rattle.call_sheets.specs.CallSheets.{show_call_of};
@@ -12,7 +11,7 @@ ghost use Rattle.call_sheets.specs.OneField.{one_field_of};
 ghost use Rattle.call_sheets.specs.CallSheets.{begins_with, values, bound_start, show_start};
 ghost use Rattle.fields.specs.Cursors.{fields_left};
 
-use fields::{Cursor, Number, NumberField, ThreeNumbers, numeral, same};
+use fields::{Cursor, numeral};
 
 // A call on one sheet, with its numbers.
 #[derive(Clone, Copy)]
@@ -42,14 +41,12 @@ pub enum Sheets {
     Two(TwoSheets),
 }
 
-// A call: the test at every length, which takes more memory than the others, or another. `Not` is a
-// call sheet that is not so written.
+// A call: the test at every length, which takes more memory than the others, or another.
 #[derive(Clone, Copy)]
 pub enum Call {
     Always,
     ClausesAlways,
     On(Sheets),
-    Not,
 }
 
 // Does the sheet begin so, and end with a byte 10?
@@ -58,122 +55,96 @@ fn begins(s: &[u8], start: &[u8]) -> bool
 {
     let n = start.len();
     let m = s.len();
-    if m <= n {
-        return false;
-    }
-    if same(&s[..n], start) {
-        let last = m - 1;
-        return s[last] == b'\n';
-    }
-    false
+    n < m && &s[..n] == start && s[m - 1] == b'\n'
 }
 
 // Three numbers from a cursor on.
-fn share_call(s: &[u8], c: Cursor) -> Call
+fn share_call(s: &[u8], c: Cursor) -> Option<Call>
     requires { c.end ≤ length s.now }
     ensures { result ≡ share_call_of (fields_left s.now c) }
 {
-    let ThreeNumbers::Are(n, p, i, d) = c.three(s) else {
-        return Call::Not;
-    };
+    let (n, p, i, d) = c.three(s)?;
     if d.at <= d.end {
-        return Call::Not;
+        return None;
     }
-    Call::On(Sheets::One(OneSheet::Share(n, p, i)))
+    Some(Call::On(Sheets::One(OneSheet::Share(n, p, i))))
 }
 
 // Is there neither a blank nor a byte 10?
 fn one_field(f: &[u8]) -> bool
     ensures { result ≡ one_field_of f.now }
 {
-    let mut i = 0;
-    while i < f.len() {
-        let b = f[i];
-        if b == b' ' {
+    for b in f {
+        if *b == b' ' || *b == b'\n' {
             return false;
         }
-        if b == b'\n' {
-            return false;
-        }
-        i += 1;
     }
     true
 }
 
 // User, rule and the new mark's field, from a cursor on whose line ends before the sheet's last
 // byte.
-fn change_call(s: &[u8], c: Cursor) -> Call
+fn change_call(s: &[u8], c: Cursor) -> Option<Call>
     requires { c.end + 1 ≡ length s.now }
     ensures { result ≡ change_call_of (length s.now) (fields_left s.now c) }
 {
-    let NumberField::Is(u, d) = c.number(s) else {
-        return Call::Not;
-    };
-    let NumberField::Is(r, e) = d.number(s) else {
-        return Call::Not;
-    };
+    let (u, d) = c.read(s)?;
+    let (r, e) = d.read(s)?;
     let at = e.at;
     let end = e.end;
     if end < at {
-        return Call::Not;
+        return None;
     }
-    if one_field(&s[at..end]) {
-        return Call::On(Sheets::Two(TwoSheets::Change(u, r, at)));
+    if !one_field(&s[at..end]) {
+        return None;
     }
-    Call::Not
+    Some(Call::On(Sheets::Two(TwoSheets::Change(u, r, at))))
 }
 
 // The number between a place and the last byte.
-fn number_from(s: &[u8], at: usize) -> Number
+fn number_from(s: &[u8], at: usize) -> Option<u32>
     requires { at + 1 ≤ length s.now }
-    ensures { result ≡ as_number (numeral_of
-        (take (length s.now - 1 - at) (drop at s.now))) }
+    ensures { result ≡ numeral_of (take (length s.now - 1 - at) (drop at s.now)) }
 {
     let end = s.len() - 1;
     numeral(&s[at..end])
 }
 
 // A sweep of a clause sheet.
-fn bound_call(s: &[u8]) -> Call
+fn bound_call(s: &[u8]) -> Option<Call>
     requires { 20 ≤ length s.now }
     ensures { result ≡ with_number (numeral_of (values bound_start s.now))
         sweep_call }
 {
-    let n = number_from(s, 19);
-    match n {
-        Number::Is(k) => Call::On(Sheets::One(OneSheet::ClausesSweep(k))),
-        Number::Not => Call::Not,
-    }
+    let k = number_from(s, 19)?;
+    Some(Call::On(Sheets::One(OneSheet::ClausesSweep(k))))
 }
 
 // Trees as shown to a user.
-fn show_call(s: &[u8]) -> Call
+fn show_call(s: &[u8]) -> Option<Call>
     requires { 16 ≤ length s.now }
     ensures { result ≡ with_number (numeral_of (values show_start s.now))
         show_call_of }
 {
-    let n = number_from(s, 15);
-    match n {
-        Number::Is(u) => Call::On(Sheets::Two(TwoSheets::Show(u))),
-        Number::Not => Call::Not,
-    }
+    let u = number_from(s, 15)?;
+    Some(Call::On(Sheets::Two(TwoSheets::Show(u))))
 }
 
 // The test at every length.
-fn always_call(s: &[u8]) -> Call
+fn always_call(s: &[u8]) -> Option<Call>
     ensures { result ≡ always_call s.now }
 {
-    if same(s, b"call\nalways\n") {
-        return Call::Always;
+    if s == b"call\nalways\n".as_slice() {
+        return Some(Call::Always);
     }
-    if same(s, b"call\nclauses-always\n") {
-        return Call::ClausesAlways;
+    if s == b"call\nclauses-always\n".as_slice() {
+        return Some(Call::ClausesAlways);
     }
-    Call::Not
+    None
 }
 
 // A call with numbers, or the test at every length.
-fn numbered_call(s: &[u8]) -> Call
+fn numbered_call(s: &[u8]) -> Option<Call>
     ensures { result ≡ numbered_call s.now }
 {
     if begins(s, b"call bound\nclauses ") {
@@ -193,27 +164,27 @@ fn numbered_call(s: &[u8]) -> Call
     always_call(s)
 }
 
-// The call that a call sheet names.
-pub fn call_of(s: &[u8]) -> Call
+// The call that a call sheet names, if it is so written.
+pub fn call_of(s: &[u8]) -> Option<Call>
     ensures { result ≡ call_of s.now }
 {
-    if same(s, b"call\nclauses\n") {
-        return Call::On(Sheets::Two(TwoSheets::Clauses));
+    if s == b"call\nclauses\n".as_slice() {
+        return Some(Call::On(Sheets::Two(TwoSheets::Clauses)));
     }
-    if same(s, b"call\nexpand\n") {
-        return Call::On(Sheets::One(OneSheet::Expand));
+    if s == b"call\nexpand\n".as_slice() {
+        return Some(Call::On(Sheets::One(OneSheet::Expand)));
     }
-    if same(s, b"call\nrows\n") {
-        return Call::On(Sheets::Two(TwoSheets::Rows));
+    if s == b"call\nrows\n".as_slice() {
+        return Some(Call::On(Sheets::Two(TwoSheets::Rows)));
     }
-    if same(s, b"call\ncolumns\n") {
-        return Call::On(Sheets::Two(TwoSheets::Columns));
+    if s == b"call\ncolumns\n".as_slice() {
+        return Some(Call::On(Sheets::Two(TwoSheets::Columns)));
     }
-    if same(s, b"call\nplaces\n") {
-        return Call::On(Sheets::Two(TwoSheets::Places));
+    if s == b"call\nplaces\n".as_slice() {
+        return Some(Call::On(Sheets::Two(TwoSheets::Places)));
     }
-    if same(s, b"call\nmerge\n") {
-        return Call::On(Sheets::Two(TwoSheets::Merge));
+    if s == b"call\nmerge\n".as_slice() {
+        return Some(Call::On(Sheets::Two(TwoSheets::Merge)));
     }
     numbered_call(s)
 }

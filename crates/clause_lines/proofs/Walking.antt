@@ -2,13 +2,13 @@
 use mathlib.Core.Path.{◌≡◌, refl, sym, ◌∙◌, ap}
 use mathlib.Core.Bool.{Bool, true, false, cond, not, ◌&&◌, ◌||◌}
 use mathlib.Core.List.{List, ◌∷◌}
-use mathlib.Core.Option.{Option, none, some}
+use Rattle.std.specs.Prelude.{Option, None, Some}
 use Prim.Native.Nat.{ℕ, zero, suc, ◌+◌, ◌-◌, ◌≤◌, ◌<◌, max}
 use native.Mathlib.Omega.{arith}
 use native.Mathlib.Numerals.{add-one}
 use lib.ListN.{drop}
 use lib.Dec.{leb, eqb, ltb, ltb→lt, nltb→le, leb→le, nleb→lt}
-use borrow.Author.Tests.{le-leb, lt-leb, eq-eqb, ne_eqb}
+use borrow.Author.Tests.{le-leb, lt-leb, ne_eqb}
 use Rattle.sets.proofs.Basics.{never}
 use Rattle.grammar.specs.declared.BinaryMark.TheVariants as BinaryMark
 use Rattle.clauses.specs.Clauses as C
@@ -27,7 +27,8 @@ use Rattle.lexemes.specs.Lexemes.{lexemes, onto_lexemes}
 use Rattle.lexemes.specs.Answers.{lexeme_of, Front, LexemeTells, Lexes}
 use Rattle.clause_lines.specs.declared.State.{State}
 use Rattle.clause_lines.specs.declared.Walk.{Walk}
-use Rattle.clause_lines.specs.declared.Checked.{Checked}
+use Rattle.std.specs.Prelude.{Result, Ok, Err}
+use Rattle.clause_lines.specs.declared.ExpressionFault.{ExpressionFault}
 use Rattle.clause_lines.specs.ClauseLines.{good, deep, shallow_only, lexemes_say, expression}
 use Rattle.clause_lines.specs.Walks as W
 use Rattle.clause_lines.specs.Walks.{state_of, is_due_of, takes_repeat, takes_mark, is_end, may}
@@ -116,8 +117,8 @@ run_off x l s d h = run_step x l s d ∙ both_is (may s d (lexeme_of x)) false
     (run l (state_of (state_after (lexeme_of x))) (opens x d)) h
 
 -- the answer by its parts
-abbrev pick : Bool → Bool → ℕ → Checked
-pick r h p = cond r (cond h (Checked.Good p) Checked.Deep) Checked.Unwritten
+abbrev pick : Bool → Bool → ℕ → Result ℕ ExpressionFault
+pick r h p = cond r (cond h (Ok p) (Err ExpressionFault.Deep)) (Err ExpressionFault.Unwritten)
 
 not_le : (d : ℕ) → ltb d 16 ≡ not (leb 16 d)
 not_le d = go (ltb d 16) refl
@@ -142,16 +143,16 @@ module _ (w : Walk) (e : ℕ) where
       ≡ answer o (state_of (stepped w (lexeme_of x) e).state)
       (stepped w (lexeme_of x) e).deep (stepped w (lexeme_of x) e).over
       (stepped w (lexeme_of x) e).past
-  on_step x none h = refl
-  on_step (n a) (some l) h =
+  on_step x None h = refl
+  on_step (n a) (Some l) h =
       λ i. pick (run_on (n a) l w.state w.deep h i) (not w.over && shallow 16 l w.deep)
       (max_assoc w.past (a + 1) (past_lexes l) i)
-  on_step (t a) (some l) h = λ i. pick (run_on (t a) l w.state w.deep h i)
+  on_step (t a) (Some l) h = λ i. pick (run_on (t a) l w.state w.deep h i)
       (not w.over && shallow 16 l w.deep) (max w.past (nothing l i))
     where
       nothing : (l : List Lex) → max 0 (past_lexes l) ≡ past_lexes l
       nothing l = max_is 0 (past_lexes l) (past_lexes l) (omega arith) (omega arith) (λ k p q. q)
-  on_step opening (some l) h = λ i.
+  on_step opening (Some l) h = λ i.
       pick (run_on opening l w.state w.deep h i)
       ((ap (λ (b : Bool). not w.over && both b (shallow 16 l (suc w.deep))) (not_le w.deep)
       ∙ deeper w.over (leb 16 w.deep) _ ∙ ap
@@ -159,36 +160,36 @@ module _ (w : Walk) (e : ℕ) where
       (sym (add-one w.deep))) i) (max w.past
       (max_is 0 (past_lexes l) (past_lexes l) (omega arith) (omega arith) (λ k p q. q)
       i))
-  on_step closing (some l) h = λ i.
+  on_step closing (Some l) h = λ i.
       pick (run_on closing l w.state w.deep h i)
       (not w.over && shallow 16 l (drop_less w.deep i))
       (max w.past (max_is 0 (past_lexes l) (past_lexes l) (omega arith) (omega arith) (λ k p q. q)
       i))
-  on_step bar (some l) h =
+  on_step bar (Some l) h =
       λ i. pick (run_on bar l w.state w.deep h i) (not w.over && shallow 16 l w.deep)
       (max w.past (max_is 0 (past_lexes l) (past_lexes l) (omega arith) (omega arith) (λ k p q. q)
       i))
-  on_step (suffix maybe) (some l) h =
+  on_step (suffix maybe) (Some l) h =
       λ i. pick (run_on (suffix maybe) l w.state w.deep h i)
       (not w.over && shallow 16 l w.deep)
       (max w.past (max_is 0 (past_lexes l) (past_lexes l) (omega arith) (omega arith) (λ k p q. q)
       i))
-  on_step (suffix (repeats C.from_one m)) (some l) h =
+  on_step (suffix (repeats C.from_one m)) (Some l) h =
       λ i. pick (run_on (suffix (repeats C.from_one m)) l w.state w.deep h i)
       (not w.over && shallow 16 l w.deep)
       (max w.past (max_is 0 (past_lexes l) (past_lexes l) (omega arith) (omega arith) (λ k p q. q)
       i))
-  on_step (suffix (repeats C.from_zero m)) (some l) h =
+  on_step (suffix (repeats C.from_zero m)) (Some l) h =
       λ i. pick (run_on (suffix (repeats C.from_zero m)) l w.state w.deep h i)
       (not w.over && shallow 16 l w.deep)
       (max w.past (max_is 0 (past_lexes l) (past_lexes l) (omega arith) (omega arith) (λ k p q. q)
       i))
-  on_step (suffix (marks m)) (some l) h =
+  on_step (suffix (marks m)) (Some l) h =
       λ i. pick (run_on (suffix (marks m)) l w.state w.deep h i)
       (not w.over && shallow 16 l w.deep)
       (max w.past (max_is 0 (past_lexes l) (past_lexes l) (omega arith) (omega arith) (λ k p q. q)
       i))
-  on_step (join m) (some l) h =
+  on_step (join m) (Some l) h =
       λ i. pick (run_on (join m) l w.state w.deep h i)
       (not w.over && shallow 16 l w.deep)
       (max w.past (max_is 0 (past_lexes l) (past_lexes l) (omega arith) (omega arith) (λ k p q. q)
@@ -196,9 +197,9 @@ module _ (w : Walk) (e : ℕ) where
 
   off_step : (x : Lex) (o : Option (List Lex)) → may w.state w.deep (lexeme_of x) ≡ false
       → answer (onto_lexemes x o) (state_of w.state) w.deep w.over w.past
-      ≡ Checked.Unwritten
-  off_step x none h = refl
-  off_step x (some l) h =
+      ≡ (Err ExpressionFault.Unwritten)
+  off_step x None h = refl
+  off_step x (Some l) h =
       ap (λ (r : Bool). pick r (not w.over && shallow 16 (x ∷ l) w.deep)
       (max w.past (past_lexes (x ∷ l)))) (run_off x l w.state w.deep h)
 
@@ -211,7 +212,7 @@ module _ (w : Walk) (e : ℕ) where
       w.over w.past) f.front ∙ on_step x (lexemes (drop e s)) h
 
   front_off : (s : List ℕ) (x : Lex) → Front s w.at x e
-      → may w.state w.deep (lexeme_of x) ≡ false → answer_at s w ≡ Checked.Unwritten
+      → may w.state w.deep (lexeme_of x) ≡ false → answer_at s w ≡ (Err ExpressionFault.Unwritten)
   front_off s x f h = ap (λ (o : Option (List Lex)). answer o (state_of w.state) w.deep
       w.over w.past) f.front ∙ off_step x (lexemes (drop e s)) h
 
@@ -232,7 +233,8 @@ told_on s w Lexeme.End e f h = never h
 told_on s w Lexeme.Not e f h = never h
 
 pub told_off : (s : List ℕ) (w : Walk) (l : Lexeme) (e : ℕ) → LexemeTells s w.at l e
-    → is_end l ≡ false → may w.state w.deep l ≡ false → answer_at s w ≡ Checked.Unwritten
+    → is_end l ≡ false → may w.state w.deep l ≡ false
+    → answer_at s w ≡ (Err ExpressionFault.Unwritten)
 told_off s w (Lexeme.Nonterminal a) e f g h = front_off w e s (n a) f h
 told_off s w (Lexeme.Terminal a) e f g h = front_off w e s (t a) f h
 told_off s w Lexeme.Open e f g h = front_off w e s opening f h
@@ -280,18 +282,20 @@ stepped_at w Lexeme.Not e = (refl, omega arith)
 
 last_of : (st : State) (d : ℕ) (b : Bool) (p : ℕ)
     → pick (both (past_item (state_of st)) (zero? d)) (not b && true) (max p 0)
-    ≡ cond (not (is_due_of st) && eqb d 0) (cond b Checked.Deep (Checked.Good p)) Checked.Unwritten
+    ≡ cond (not (is_due_of st) && eqb d 0) (cond b (Err ExpressionFault.Deep) (Ok p))
+    (Err ExpressionFault.Unwritten)
 last_of st d b p = ap (λ (r : Bool). pick (both r (zero? d)) (not b && true) (max p 0))
     (past_same st) ∙ go (is_due_of st) d b
   where
     go : (u : Bool) (d : ℕ) (b : Bool)
         → pick (both (not u) (zero? d)) (not b && true) (max p 0)
-        ≡ cond (not u && eqb d 0) (cond b Checked.Deep (Checked.Good p)) Checked.Unwritten
+        ≡ cond (not u && eqb d 0) (cond b (Err ExpressionFault.Deep) (Ok p))
+        (Err ExpressionFault.Unwritten)
     go true d b = refl
-    go false (suc d) b = ap (λ (x : Bool). cond x (cond b Checked.Deep (Checked.Good p))
-        Checked.Unwritten) (sym (ne_eqb (suc d) 0 (λ e. omega arith)))
+    go false (suc d) b = ap (λ (x : Bool). cond x (cond b (Err ExpressionFault.Deep) (Ok p))
+        (Err ExpressionFault.Unwritten)) (sym (ne_eqb (suc d) 0 (λ e. omega arith)))
     go false zero true = refl
-    go false zero false = ap Checked.Good (max_zero p)
+    go false zero false = ap Ok (max_zero p)
 
 pub told_last : (s : List ℕ) (w : Walk) (l : Lexeme) (e : ℕ) → LexemeTells s w.at l e
     → is_end l ≡ true → answer_at s w ≡ W.closing w
@@ -316,7 +320,7 @@ said : (l : List Lex) (d : Dec (IsExpression l))
 said l (no f) = go (run l due 0) refl
   where
     go : (b : Bool) → run l due 0 ≡ b
-        → pick b (shallow 16 l 0) (max 0 (past_lexes l)) ≡ Checked.Unwritten
+        → pick b (shallow 16 l 0) (max 0 (past_lexes l)) ≡ (Err ExpressionFault.Unwritten)
     go true e = let a = accepted l e in absurd (f (record { expr = a.0; written = a.1 }))
     go false e = refl
 said l (yes y) = ap (λ (r : Bool). pick r (shallow 16 l 0) (max 0 (past_lexes l)))
@@ -327,16 +331,16 @@ said l (yes y) = ap (λ (r : Bool). pick r (shallow 16 l 0) (max 0 (past_lexes l
         ∙ past_written y.written
 
     go : (b : Bool) → leb (depth y.expr) 16 ≡ b
-        → cond (shallow 16 l 0) (Checked.Good (max 0 (past_lexes l))) Checked.Deep
+        → cond (shallow 16 l 0) (Ok (max 0 (past_lexes l))) (Err ExpressionFault.Deep)
         ≡ checked_of (cond b (good y.expr) deep)
-    go true e = ap (λ (h : Bool). cond h (Checked.Good (max 0 (past_lexes l))) Checked.Deep)
-        (shallow_in 16 y.written (leb_le e)) ∙ ap Checked.Good good_past
-    go false e = ap (λ (h : Bool). cond h (Checked.Good (max 0 (past_lexes l))) Checked.Deep)
+    go true e = ap (λ (h : Bool). cond h (Ok (max 0 (past_lexes l))) (Err ExpressionFault.Deep))
+        (shallow_in 16 y.written (leb_le e)) ∙ ap Ok good_past
+    go false e = ap (λ (h : Bool). cond h (Ok (max 0 (past_lexes l))) (Err ExpressionFault.Deep))
         (shallow_out 16 y.written (leb_gt e))
 
 begins : (o : Option (List Lex)) → answer o due 0 false 0 ≡ checked_of (lexemes_say o)
-begins none = refl
-begins (some l) = said l (says? l)
+begins None = refl
+begins (Some l) = said l (says? l)
 
 pub walk_answers : (s : List ℕ) → answer_at s begun ≡ checked_of (expression s)
 walk_answers s = begins (lexemes s)
@@ -362,7 +366,8 @@ walk_further s w x X h = let z = stepped_at w x.lexeme x.end in let y =
 
 pub walks_off : (s : List ℕ) (w : Walk) (x : Lexed) → Walks s w → Lexes s w.at x
     → is_end x.lexeme ≡ false
-    → may w.state w.deep x.lexeme ≡ false → Checked.Unwritten ≡ checked_of (expression s)
+    → may w.state w.deep x.lexeme ≡ false
+    → (Err ExpressionFault.Unwritten) ≡ checked_of (expression s)
 walks_off s w x W₁ X g h =
     sym (told_off s w x.lexeme x.end X.tells g h) ∙ sym W₁.same ∙ walk_answers s
 
@@ -370,98 +375,3 @@ pub walks_last : (s : List ℕ) (w : Walk) (x : Lexed) → Walks s w → Lexes s
     → is_end x.lexeme ≡ true → W.closing w ≡ checked_of (expression s)
 walks_last s w x W₁ X g =
     sym (told_last s w x.lexeme x.end X.tells g) ∙ sym W₁.same ∙ walk_answers s
-
--- the end of the walk
-module _ (w : Walk) (g : is_due_of w.state ≡ false) where
-  at_zero : w.deep ≡ 0 → W.closing w ≡ cond w.over Checked.Deep (Checked.Good w.past)
-  at_zero e =
-      ap (λ (x : Bool). cond (not x && eqb w.deep 0)
-      (cond w.over Checked.Deep (Checked.Good w.past)) Checked.Unwritten) g
-      ∙ ap (λ (x : Bool). cond x (cond w.over Checked.Deep (Checked.Good w.past))
-      Checked.Unwritten) (eq-eqb w.deep 0 e)
-
-  pub end_deep : w.deep ≡ 0 → w.over ≡ true → Checked.Deep ≡ W.closing w
-  end_deep e f = sym (at_zero e ∙ ap (λ (x : Bool). cond x Checked.Deep (Checked.Good w.past)) f)
-
-  pub end_good : w.deep ≡ 0 → w.over ≡ false → Checked.Good w.past ≡ W.closing w
-  end_good e f = sym (at_zero e ∙ ap (λ (x : Bool). cond x Checked.Deep (Checked.Good w.past)) f)
-
-  pub end_open : (w.deep ≡ 0 → ⊥) → Checked.Unwritten ≡ W.closing w
-  end_open e =
-      sym (ap (λ (x : Bool). cond (not x && eqb w.deep 0)
-      (cond w.over Checked.Deep (Checked.Good w.past)) Checked.Unwritten) g
-      ∙ ap (λ (x : Bool). cond x (cond w.over Checked.Deep (Checked.Good w.past))
-      Checked.Unwritten) (ne_eqb w.deep 0 e))
-
-pub close_none : (s : State) (d : ℕ) → d ≡ 0 → false ≡ may s d Lexeme.Close
-close_none s d e = sym (ap (λ (x : Bool). not x && not (is_due_of s)) (eq-eqb d 0 e))
-
-pub close_some : (s : State) (d : ℕ) → (d ≡ 0 → ⊥) → not (is_due_of s) ≡ may s d Lexeme.Close
-close_some s d e = sym (ap (λ (x : Bool). not x && not (is_due_of s)) (ne_eqb d 0 e))
-
--- a closing parenthesis may stand only where one is open
-pub close_open : (s : State) (d : ℕ) → may s d Lexeme.Close ≡ true → 0 < d
-close_open s zero h = never h
-close_open s (suc d) h = omega arith
-
-pub may_by : (s : State) (d : ℕ) (l k : Lexeme) → l ≡ k → may s d k ≡ may s d l
-may_by s d l k e = ap (may s d) (sym e)
-
-pub stepped_by : (w : Walk) (l k : Lexeme) (e : ℕ) → l ≡ k → stepped w k e ≡ stepped w l e
-stepped_by w l k e h = ap (λ (y : Lexeme). stepped w y e) (sym h)
-
-larger : (a b : ℕ) → a < b → max a b ≡ b
-larger a b h = max_is a b b (omega arith) (omega arith) (λ k p q. q)
-
-smaller : (a b : ℕ) → b ≤ a → max a b ≡ a
-smaller a b h = max_is a b a (omega arith) h (λ k p q. p)
-
-pub named_larger : (w : Walk) (a e : ℕ) → w.past < a + 1
-    → record { at = e; state = State.Plain; deep = w.deep; over = w.over; past = a + 1 }
-    ≡ stepped w (Lexeme.Nonterminal a) e
-named_larger w a e h = ap (λ (p : ℕ). record
-    { at = e; state = State.Plain; deep = w.deep; over = w.over; past = p })
-    (sym (larger w.past (a + 1) h))
-
-pub named_smaller : (w : Walk) (a e : ℕ) → a + 1 ≤ w.past
-    → record { at = e; state = State.Plain; deep = w.deep; over = w.over; past = w.past }
-    ≡ stepped w (Lexeme.Nonterminal a) e
-named_smaller w a e h = ap (λ (p : ℕ). record
-    { at = e; state = State.Plain; deep = w.deep; over = w.over; past = p })
-    (sym (smaller w.past (a + 1) h))
-
-or_true : (b : Bool) → (b || true) ≡ true
-or_true true = refl
-or_true false = refl
-
-or_false : (b : Bool) → (b || false) ≡ b
-or_false true = refl
-or_false false = refl
-
-pub opened_over : (w : Walk) (e : ℕ) → 16 ≤ w.deep
-    → record { at = e; state = State.Due; deep = w.deep + 1; over = true; past = w.past }
-    ≡ stepped w Lexeme.Open e
-opened_over w e h =
-    ap (λ (b : Bool). record {
-      at = e;
-      state = State.Due;
-      deep = w.deep
-          + 1;
-      over = b;
-      past = w.past;
-    })
-    (sym (ap (λ (x : Bool). w.over || x) (le-leb 16 w.deep h) ∙ or_true w.over))
-
-pub opened_within : (w : Walk) (e : ℕ) → w.deep < 16
-    → record { at = e; state = State.Due; deep = w.deep + 1; over = w.over; past = w.past }
-    ≡ stepped w Lexeme.Open e
-opened_within w e h =
-    ap (λ (b : Bool). record {
-      at = e;
-      state = State.Due;
-      deep = w.deep
-          + 1;
-      over = b;
-      past = w.past;
-    })
-    (sym (ap (λ (x : Bool). w.over || x) (lt-leb 16 w.deep h) ∙ or_false w.over))

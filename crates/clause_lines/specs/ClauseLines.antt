@@ -1,7 +1,7 @@
 -- What a clause line says: a left and an expression, or 41, or 42. docs/FORMAT.md, "The clause
 -- sheet".
 use Rattle.std.specs.Prelude.{ℕ, ◌+◌, List, cond, length, drop, leb}
-use Rattle.std.proofs.Math.Option.{Option, none, some}
+use Rattle.std.specs.Prelude.{Option, None, Some}
 use Rattle.fields.specs.Pieces.{before}
 use Rattle.fields.specs.Words.{numeral_of}
 use Rattle.clauses.specs.Clauses.{Expr, alternatives}
@@ -26,8 +26,8 @@ shallow_only (yes s) = cond (leb (depth s.expr) 16) (good s.expr) deep
 shallow_only (no n) = unwritten
 
 abbrev pub lexemes_say : Option (List Lex) → Said (Expr alternatives)
-lexemes_say (some l) = shallow_only (says? l)
-lexemes_say none = unwritten
+lexemes_say (Some l) = shallow_only (says? l)
+lexemes_say None = unwritten
 
 -- an expression's bytes
 abbrev pub expression : List ℕ → Said (Expr alternatives)
@@ -40,8 +40,8 @@ with_left l deep = deep
 
 -- a nonterminal number 0 to 63 as in rule sheets
 abbrev pub left_says : Option ℕ → Said (Expr alternatives) → Said ClauseLine
-left_says (some l) e = cond (leb l 63) (with_left l e) unwritten
-left_says none e = unwritten
+left_says (Some l) e = cond (leb l 63) (with_left l e) unwritten
+left_says None e = unwritten
 
 -- a nonterminal number, a blank, and an expression; the line's bytes without its byte 10
 abbrev pub clause_line : List ℕ → Said ClauseLine

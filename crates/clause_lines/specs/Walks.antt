@@ -1,7 +1,7 @@
 -- For inner functions: the flat walk over an expression's lexemes.
 use Rattle.std.specs.Prelude.{ℕ, ◌+◌, ◌-◌, max, List, Bool, true, false, cond, not, ◌&&◌, ◌||◌}
 use Rattle.std.specs.Prelude.{drop, leb, eqb}
-use Rattle.std.proofs.Math.Option.{Option, none, some}
+use Rattle.std.specs.Prelude.{Option, None, Some}
 use Rattle.clauses.specs.Expansion.{past_expr}
 use Rattle.clauses.specs.Clauses.{Expr, alternatives}
 use Rattle.clauses.specs.Text.{Lex}
@@ -10,7 +10,8 @@ use Rattle.lexemes.specs.declared.Lexeme.{Lexeme}
 use Rattle.lexemes.specs.Lexemes.{lexemes}
 use Rattle.clause_lines.specs.declared.State.{State}
 use Rattle.clause_lines.specs.declared.Walk.{Walk}
-use Rattle.clause_lines.specs.declared.Checked.{Checked}
+use Rattle.std.specs.Prelude.{Result, Ok, Err}
+use Rattle.clause_lines.specs.declared.ExpressionFault.{ExpressionFault}
 use Rattle.clause_lines.specs.ClauseLines.{Said, good, unwritten, deep}
 
 abbrev pub state_of : State → F.State
@@ -115,25 +116,25 @@ stepped w Lexeme.Not e =
     record { at = e; state = State.Due; deep = w.deep; over = w.over; past = w.past }
 
 -- the answer from lexemes on that are still to come
-abbrev pub answer : Option (List Lex) → F.State → ℕ → Bool → ℕ → Checked
-answer none s d b p = Checked.Unwritten
-answer (some l) s d b p = cond (F.run l s d)
-    (cond (not b && F.shallow 16 l d) (Checked.Good (max p (F.past_lexes l))) Checked.Deep)
-    Checked.Unwritten
+abbrev pub answer : Option (List Lex) → F.State → ℕ → Bool → ℕ → Result ℕ ExpressionFault
+answer None s d b p = Err ExpressionFault.Unwritten
+answer (Some l) s d b p = cond (F.run l s d)
+    (cond (not b && F.shallow 16 l d) (Ok (max p (F.past_lexes l))) (Err ExpressionFault.Deep))
+    (Err ExpressionFault.Unwritten)
 
-abbrev pub answer_at : List ℕ → Walk → Checked
+abbrev pub answer_at : List ℕ → Walk → Result ℕ ExpressionFault
 answer_at s w = answer (lexemes (drop w.at s)) (state_of w.state) w.deep w.over w.past
 
 -- at the end
-abbrev pub closing : Walk → Checked
+abbrev pub closing : Walk → Result ℕ ExpressionFault
 closing w = cond (not (is_due_of w.state) && eqb w.deep 0)
-    (cond w.over Checked.Deep (Checked.Good w.past)) Checked.Unwritten
+    (cond w.over (Err ExpressionFault.Deep) (Ok w.past)) (Err ExpressionFault.Unwritten)
 
 -- what an expression says, and one past its largest nonterminal
-abbrev pub checked_of : Said (Expr alternatives) → Checked
-checked_of (good e) = Checked.Good (past_expr e)
-checked_of unwritten = Checked.Unwritten
-checked_of deep = Checked.Deep
+abbrev pub checked_of : Said (Expr alternatives) → Result ℕ ExpressionFault
+checked_of (good e) = Ok (past_expr e)
+checked_of unwritten = Err ExpressionFault.Unwritten
+checked_of deep = Err ExpressionFault.Deep
 
 -- where the walk begins
 abbrev pub begun : Walk

@@ -30,10 +30,9 @@ pub struct Walk {
     pub past: usize,
 }
 
-// One past an expression's largest nonterminal; or not so written; or nested too deep.
+// What is wrong with an expression: it is not so written, or nested too deep.
 #[derive(Clone, Copy)]
-pub enum Checked {
-    Good(usize),
+pub enum ExpressionFault {
     Unwritten,
     Deep,
 }
@@ -42,46 +41,28 @@ pub enum Checked {
 fn is_due(s: State) -> bool
     ensures { result ≡ is_due_of s }
 {
-    match s {
-        State::Due => true,
-        State::Plain => false,
-        State::Grouped => false,
-        State::Suffixed => false,
-    }
+    matches!(s, State::Due)
 }
 
 // May ? and the like stand?
 fn takes_repeat(s: State) -> bool
     ensures { result ≡ takes_repeat s }
 {
-    match s {
-        State::Due => false,
-        State::Plain => true,
-        State::Grouped => true,
-        State::Suffixed => false,
-    }
+    matches!(s, State::Plain | State::Grouped)
 }
 
 // May :offside and the like stand?
 fn takes_mark(s: State) -> bool
     ensures { result ≡ takes_mark s }
 {
-    match s {
-        State::Due => false,
-        State::Plain => false,
-        State::Grouped => true,
-        State::Suffixed => false,
-    }
+    matches!(s, State::Grouped)
 }
 
 // May a closing parenthesis stand?
 fn may_close(s: State, deep: usize) -> bool
     ensures { result ≡ may s deep Lexeme.Close }
 {
-    if deep == 0 {
-        return false;
-    }
-    !is_due(s)
+    deep != 0 && !is_due(s)
 }
 
 // May the lexeme stand?
@@ -89,18 +70,12 @@ fn fits(s: State, deep: usize, l: Lexeme) -> bool
     ensures { result ≡ may s deep l }
 {
     match l {
-        Lexeme::Nonterminal(_) => is_due(s),
-        Lexeme::Terminal(_) => is_due(s),
-        Lexeme::Open => is_due(s),
+        Lexeme::Nonterminal(_) | Lexeme::Terminal(_) | Lexeme::Open => is_due(s),
         Lexeme::Close => may_close(s, deep),
-        Lexeme::Bar => !is_due(s),
-        Lexeme::Join(_) => !is_due(s),
-        Lexeme::Maybe => takes_repeat(s),
-        Lexeme::Plus(_) => takes_repeat(s),
-        Lexeme::Star(_) => takes_repeat(s),
+        Lexeme::Bar | Lexeme::Join(_) => !is_due(s),
+        Lexeme::Maybe | Lexeme::Plus(_) | Lexeme::Star(_) => takes_repeat(s),
         Lexeme::Marked(_) => takes_mark(s),
-        Lexeme::End => false,
-        Lexeme::Not => false,
+        Lexeme::End | Lexeme::Not => false,
     }
 }
 
@@ -108,46 +83,25 @@ fn fits(s: State, deep: usize, l: Lexeme) -> bool
 fn named(w: Walk, a: u8, end: usize) -> Walk
     ensures { result ≡ stepped w (Lexeme.Nonterminal a) end }
 {
-    let p = a as usize + 1;
-    if w.past < p {
-        return Walk {
-            at: end,
-            state: State::Plain,
-            deep: w.deep,
-            over: w.over,
-            past: p,
-        };
-    }
     Walk {
         at: end,
         state: State::Plain,
-        deep: w.deep,
-        over: w.over,
-        past: w.past,
+        past: w.past.max(a as usize + 1),
+        ..w
     }
 }
 
 // The walk behind an opening parenthesis.
-#[tactic(auto, using(crate::proofs::Walking::opened_over, crate::proofs::Walking::opened_within))]
 fn opened(w: Walk, end: usize) -> Walk
     requires { w.deep < 18446744073709551615 }
     ensures { result ≡ stepped w Lexeme.Open end }
 {
-    if 16 <= w.deep {
-        return Walk {
-            at: end,
-            state: State::Due,
-            deep: w.deep + 1,
-            over: true,
-            past: w.past,
-        };
-    }
     Walk {
         at: end,
         state: State::Due,
         deep: w.deep + 1,
-        over: w.over,
-        past: w.past,
+        over: w.over || 16 <= w.deep,
+        ..w
     }
 }
 
@@ -164,9 +118,7 @@ fn moved(w: Walk, state: State, end: usize) -> Walk
     Walk {
         at: end,
         state,
-        deep: w.deep,
-        over: w.over,
-        past: w.past,
+        ..w
     }
 }
 
@@ -179,8 +131,7 @@ fn closed(w: Walk, end: usize) -> Walk
         at: end,
         state: State::Grouped,
         deep: w.deep - 1,
-        over: w.over,
-        past: w.past,
+        ..w
     }
 }
 
@@ -192,59 +143,38 @@ fn step(w: Walk, l: Lexeme, end: usize) -> Walk
 {
     match l {
         Lexeme::Nonterminal(a) => named(w, a, end),
-        Lexeme::Terminal(_) => moved(w, State::Plain, end),
         Lexeme::Open => opened(w, end),
         Lexeme::Close => closed(w, end),
-        Lexeme::Bar => moved(w, State::Due, end),
-        Lexeme::Join(_) => moved(w, State::Due, end),
-        Lexeme::Maybe => moved(w, State::Suffixed, end),
-        Lexeme::Plus(_) => moved(w, State::Suffixed, end),
-        Lexeme::Star(_) => moved(w, State::Suffixed, end),
-        Lexeme::Marked(_) => moved(w, State::Suffixed, end),
-        Lexeme::End => moved(w, State::Due, end),
-        Lexeme::Not => moved(w, State::Due, end),
+        Lexeme::Terminal(_) => moved(w, State::Plain, end),
+        Lexeme::Bar | Lexeme::Join(_) | Lexeme::End | Lexeme::Not => moved(w, State::Due, end),
+        Lexeme::Maybe | Lexeme::Plus(_) | Lexeme::Star(_) | Lexeme::Marked(_) => {
+            moved(w, State::Suffixed, end)
+        }
     }
 }
 
 // What the walk says at the end of the expression.
-fn finish(w: Walk) -> Checked
+fn finish(w: Walk) -> Result<usize, ExpressionFault>
     ensures { result ≡ closing w }
 {
-    let s = w.state;
-    if is_due(s) {
-        return Checked::Unwritten;
+    if is_due(w.state) || w.deep != 0 {
+        return Err(ExpressionFault::Unwritten);
     }
-    if w.deep == 0 {
-        if w.over {
-            return Checked::Deep;
-        }
-        return Checked::Good(w.past);
+    if w.over {
+        return Err(ExpressionFault::Deep);
     }
-    Checked::Unwritten
+    Ok(w.past)
 }
 
 // Are no lexemes left?
 fn is_end(l: Lexeme) -> bool
     ensures { result ≡ is_end l }
 {
-    match l {
-        Lexeme::End => true,
-        Lexeme::Nonterminal(_) => false,
-        Lexeme::Terminal(_) => false,
-        Lexeme::Open => false,
-        Lexeme::Close => false,
-        Lexeme::Bar => false,
-        Lexeme::Join(_) => false,
-        Lexeme::Maybe => false,
-        Lexeme::Plus(_) => false,
-        Lexeme::Star(_) => false,
-        Lexeme::Marked(_) => false,
-        Lexeme::Not => false,
-    }
+    matches!(l, Lexeme::End)
 }
 
 // An expression's bytes: 41 depth aside, then 42, or one past its largest nonterminal.
-pub fn check(s: &[u8]) -> Checked
+pub fn check(s: &[u8]) -> Result<usize, ExpressionFault>
     ensures { result ≡ checked_of (expression s.now) }
 {
     let mut w = Walk {
@@ -260,11 +190,9 @@ pub fn check(s: &[u8]) -> Checked
         if is_end(l) {
             return finish(w);
         }
-        let state = w.state;
-        if fits(state, w.deep, l) {
-            w = step(w, l, x.end);
-            continue;
+        if !fits(w.state, w.deep, l) {
+            return Err(ExpressionFault::Unwritten);
         }
-        return Checked::Unwritten;
+        w = step(w, l, x.end);
     }
 }

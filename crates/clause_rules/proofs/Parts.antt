@@ -3,7 +3,7 @@ use mathlib.Core.Path.{◌≡◌, refl, sym, ◌∙◌, ap, subst}
 use mathlib.Core.Logic.{inl, ⊎_elim}
 use mathlib.Core.Bool.{Bool, true, false}
 use mathlib.Core.List.{List, [], ◌∷◌, ◌++◌, append_assoc}
-use mathlib.Core.Option.{some}
+use Rattle.std.specs.Prelude.{Some}
 use Prim.Native.Nat.{ℕ, ◌+◌, ◌≤◌}
 use native.Mathlib.Omega.{arith}
 use lib.ListN.{length, length-append}
@@ -43,7 +43,7 @@ not_both : {c : Bool} → c ≡ true → c ≡ false → ⊥
 not_both p q = let z = sym p ∙ q in clash cc
 
 left_by : {s : List ℕ} {at : ℕ} {k l : List Lex} → k ≡ l → Left s at k → Left s at l
-left_by e h = record { lexed = h.lexed ∙ ap some e }
+left_by e h = record { lexed = h.lexed ∙ ap Some e }
 
 -- where atoms and items end
 module _ (s : List ℕ) (at : ℕ) (x : Lexed) (X : Lexes s at x) where

@@ -154,9 +154,3 @@ one_six e = omega arith
 
 pub two_six : ◌≡◌ {A = ℕ} 2 6 → ⊥
 two_six e = omega arith
-
-pub three_six : ◌≡◌ {A = ℕ} 3 6 → ⊥
-three_six e = omega arith
-
-pub four_six : ◌≡◌ {A = ℕ} 4 6 → ⊥
-four_six e = omega arith

@@ -7,6 +7,7 @@ ghost use Rattle.std.specs.Prelude.{◌≡◌, ◌≤◌, length};
 ghost use Rattle.grammar.specs.declared.BinaryMark.{BinaryMark};
 ghost use Rattle.lexemes.specs.declared.Lexeme.TheVariants as Lexeme;
 ghost use Rattle.rule_output.specs.Signs.{sort_of_of};
+ghost use Rattle.clause_rules.specs.Roles.{role_number};
 ghost use Rattle.rule_output.specs.Emitting.{held, part_held};
 ghost use Rattle.clause_rules.specs.Ends.{GroupEnd, AtomEnd, ItemEnd};
 ghost use Rattle.clause_rules.specs.Reading.{AtomRead, ItemRead, RestRead, SequenceRead};
@@ -16,23 +17,30 @@ use grammar::{BinaryMark, Clause, Rule, UnaryMark};
 use lexemes::{Lexeme, lexeme_at};
 use rule_output::{Room, Step, fresh, leaf, opened, push, tail};
 
-// What a lexeme is where the readers go by it.
-fn sort(l: Lexeme) -> u8
-    ensures { result ≡ sort_of_of l }
+// What a lexeme is where the readers go by it: n4 or t2, (, ), a bar, what binds two items, what
+// stands after an item, no more of them.
+#[derive(Clone, Copy)]
+enum Role {
+    Leaf,
+    Open,
+    Close,
+    Bar,
+    Join,
+    Suffix,
+    End,
+}
+
+fn role_of(l: Lexeme) -> Role
+    ensures { role_number result ≡ sort_of_of l }
 {
     match l {
-        Lexeme::Nonterminal(_) => 0,
-        Lexeme::Terminal(_) => 0,
-        Lexeme::Open => 1,
-        Lexeme::Close => 2,
-        Lexeme::Bar => 3,
-        Lexeme::Join(_) => 4,
-        Lexeme::Maybe => 5,
-        Lexeme::Plus(_) => 5,
-        Lexeme::Star(_) => 5,
-        Lexeme::Marked(_) => 5,
-        Lexeme::End => 6,
-        Lexeme::Not => 6,
+        Lexeme::Nonterminal(_) | Lexeme::Terminal(_) => Role::Leaf,
+        Lexeme::Open => Role::Open,
+        Lexeme::Close => Role::Close,
+        Lexeme::Bar => Role::Bar,
+        Lexeme::Join(_) => Role::Join,
+        Lexeme::Maybe | Lexeme::Plus(_) | Lexeme::Star(_) | Lexeme::Marked(_) => Role::Suffix,
+        Lexeme::End | Lexeme::Not => Role::End,
     }
 }
 
@@ -55,25 +63,26 @@ fn group_end(s: &[u8], at: usize) -> usize
     let mut deep: usize = 0;
     loop {
         let x = lexeme_at(s, i);
-        let l = x.lexeme;
-        let k = sort(l);
-        if k == 6 {
-            return i;
-        }
-        if k == 1 {
-            deep += 1;
-            i = x.end;
-            continue;
-        }
-        if k == 2 {
-            if deep == 0 {
-                return x.end;
+        match role_of(x.lexeme) {
+            Role::End => return i,
+            Role::Open => {
+                deep += 1;
+                i = x.end;
+                continue;
             }
-            deep -= 1;
-            i = x.end;
-            continue;
+            Role::Close => {
+                if deep == 0 {
+                    return x.end;
+                }
+                deep -= 1;
+                i = x.end;
+                continue;
+            }
+            _ => {
+                i = x.end;
+                continue;
+            }
         }
-        i = x.end;
     }
 }
 
@@ -85,7 +94,7 @@ fn atom_end(s: &[u8], at: usize) -> usize
     let x = lexeme_at(s, at);
     let l = x.lexeme;
     let end = x.end;
-    if sort(l) == 1 {
+    if let Role::Open = role_of(l) {
         return group_end(s, end);
     }
     end
@@ -99,7 +108,7 @@ fn item_end(s: &[u8], at: usize) -> usize
     let e = atom_end(s, at);
     let x = lexeme_at(s, e);
     let l = x.lexeme;
-    if sort(l) == 5 {
+    if let Role::Suffix = role_of(l) {
         return x.end;
     }
     e
@@ -116,7 +125,7 @@ fn atom(s: &[u8], at: usize, rules: &mut [u64; 128], out: Room) -> Step
     let x = lexeme_at(s, at);
     let l = x.lexeme;
     let end = x.end;
-    if sort(l) == 1 {
+    if let Role::Open = role_of(l) {
         let o = fresh(out);
         let r = alternatives(s, end, n, rules, o);
         let p = r.room;
@@ -141,7 +150,7 @@ fn item(s: &[u8], at: usize, rules: &mut [u64; 128], out: Room) -> Step
     let e = atom_end(s, at);
     let x = lexeme_at(s, e);
     let l = x.lexeme;
-    if sort(l) == 5 {
+    if let Role::Suffix = role_of(l) {
         let o = opened(out, l);
         if o.over {
             return Step {
@@ -176,7 +185,7 @@ fn sequence(s: &[u8], at: usize, rules: &mut [u64; 128], out: Room) -> Step
     let p = i.room;
     let x = lexeme_at(s, i.at);
     let l = x.lexeme;
-    if sort(l) == 4 {
+    if let Role::Join = role_of(l) {
         let r = rest(s, x.end, rules, p);
         let q = r.room;
         let w = push(
@@ -225,7 +234,7 @@ fn rest(s: &[u8], at: usize, rules: &mut [u64; 128], out: Room) -> Step
     let e = item_end(s, at);
     let x = lexeme_at(s, e);
     let l = x.lexeme;
-    if sort(l) == 4 {
+    if let Role::Join = role_of(l) {
         return sequence(s, at, rules, out);
     }
     item(s, at, rules, out)
@@ -258,7 +267,7 @@ pub fn alternatives(s: &[u8], at: usize, left: u8, rules: &mut [u64; 128], out: 
     );
     let x = lexeme_at(s, a.at);
     let l = x.lexeme;
-    if sort(l) == 3 {
+    if let Role::Bar = role_of(l) {
         return alternatives(s, x.end, left, rules, q);
     }
     Step {

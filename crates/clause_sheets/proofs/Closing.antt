@@ -14,9 +14,9 @@ use Rattle.grammar.specs.declared.Grammar.{Grammar}
 use Rattle.grammar.specs.Trees.{Rules}
 use Rattle.grammar.specs.Content.{Formed, SmallRule}
 use Rattle.grammar.specs.Layout.{Every}
-use mathlib.Core.Option.{Option, none, some}
+use Rattle.std.specs.Prelude.{Option, None, Some}
 use Rattle.fields.specs.Words.{numeral_of}
-use Rattle.grammar.specs.Content.{rules_of as rulesOf}
+use Rattle.grammar.specs.Content.{rules_of}
 use Rattle.fields.specs.Pieces.{is_empty, before}
 use Rattle.clauses.specs.Clauses.{Clauses}
 use Rattle.clauses.specs.Expansion.{of, rising, past_all, size_all, expansion}
@@ -25,20 +25,13 @@ use Rattle.clauses.proofs.Apart.{expansion_distinct}
 use Rattle.rule_output.specs.Emitting.{Emit, Adds, Cause}
 use Rattle.clause_lines.specs.ClauseLines.{ClauseLine, Said, good, unwritten, deep, expression}
 use Rattle.clause_lines.specs.ClauseLines.{with_left, left_says, clause_line}
-use Rattle.sheets.specs.declared.Fault.{Fault}
-use Rattle.sheets.specs.Refusals.{number_of}
-use Rattle.sheets.specs.Promises.{reading_of, RulesRead}
-use Rattle.sheets.specs.declared.GrammarRead.{GrammarRead}
-use Rattle.sheets.proofs.Once.{never_both}
-use Rattle.sheets.specs.Items.{Reading, accepted, refused, next, stop, end, items_from}
+use Rattle.sheets.specs.Items.{accepted, refused, next, stop, end, items_from}
 use Rattle.sheets.specs.RuleSheets.{finish}
 use Rattle.sheets.proofs.Accepted.{items_hold}
 use Rattle.clause_sheets.specs.ClauseSheets.{clause_said, clause_step, clauses_of, expansion_fits}
 use Rattle.clause_sheets.specs.ClauseSheets.{expanded, clauses_from}
 use Rattle.clause_sheets.specs.Emitted.{emit_all}
-use Rattle.clause_sheets.specs.Checks.{RulesTaken, LinesEmitted, PassedAs}
-use Rattle.sheets.specs.declared.Outcome.{Outcome}
-use Rattle.sheets.specs.declared.Outcome.TheVariants.{Accepted, Refused}
+use Rattle.clause_sheets.specs.Checks.{RulesTaken, LinesEmitted}
 use Rattle.clause_sheets.specs.Ends.{AllSaid}
 use Rattle.clause_sheets.proofs.Small.{expression_terms, expansion_small}
 use Rattle.clause_sheets.proofs.Sorting.{sorted_expansion, met_lefts}
@@ -117,8 +110,8 @@ line_terms line c h = go (numeral_of (before 32 line)) h
     go : (o : Option ℕ) → left_says o (expression (drop (length (before 32 line) + 1) line))
         ≡ good c
         → Terms c.expr
-    go none q = absurd (clash cc)
-    go (some v) q = which (leb v 63) q
+    go None q = absurd (clash cc)
+    go (Some v) q = which (leb v 63) q
       where
         which : (b : Bool) → cond b (with_left v
             (expression (drop (length (before 32 line) + 1) line))) unwritten ≡ good c
@@ -197,7 +190,7 @@ module _ (ps : List (List ℕ)) (p : ℕ) (W : AllSaid ps p) where
   -- the grammar that holds the expansion is formed
   pub formed : (g : Grammar) → past_all sheet + size_all sheet ≤ 64
       → length (emit_all sheet (past_all sheet)) ≤ 128 → g.count ≡ length (expansion sheet)
-      → rulesOf g ≡ expansion sheet → Formed g
+      → rules_of g ≡ expansion sheet → Formed g
   formed g h k c e =
       let z = same_many h in
       record {
@@ -262,41 +255,15 @@ module _ {ps : List (List ℕ)} {p : ℕ} {first out : Emit} (w : Walked ps p fi
     fit : length (expansion lines) ≤ 128
     fit = omega (arith, same_many ps p w.said within, short)
 
-    holds : rulesOf g ≡ expansion lines
+    holds : rules_of g ≡ expansion lines
     holds = all_taken.rules fit
 
     pub out_formed : Formed g
     out_formed = formed ps p w.said g within short (omega (arith, all_taken.count fit)) holds
 
-    pub out_end : clauses_from ps ≡ finish (accepted (rulesOf g))
+    pub out_end : clauses_from ps ≡ finish (accepted (rules_of g))
     out_end =
         room_for ps p w.said within short ∙ ap (λ (y : Rules). finish (accepted y)) (sym holds)
 
--- what the first walk has found
-pub found_refused : (x : Reading (List ClauseLine)) (o : Outcome) (p : ℕ) (f : Fault) (l : ℕ)
-    → PassedAs x o p → o ≡ Refused f l → expanded x ≡ refused (number_of f) l
-found_refused (accepted m) o p f l h e =
-    absurd (let z : Accepted ≡ Refused f l = sym h.0 ∙ e in clash cc)
-found_refused (refused n m) o p f l h e =
-    let z : ◌≡◌ {A = Reading (Unit {0})} (refused n m) (refused (number_of f) l) =
-    sym h ∙ ap (λ (y : Outcome). reading_of {A = Unit {0}} y tt) e in
-    let a : n ≡ number_of f = cc in
-    let b : m ≡ l = cc in
-    (λ i. refused (a i) (b i))
-
-pub found_all : (ps : List (List ℕ)) (o : Outcome) (p : ℕ)
-    → PassedAs (items_from clause_step [] ps) o p → o ≡ Accepted → AllSaid ps p
-found_all ps o p h e = go (items_from clause_step [] ps) refl h
-  where
-    go : (x : Reading (List ClauseLine)) → items_from clause_step [] ps ≡ x → PassedAs x o p
-        → AllSaid ps p
-    go (accepted l) j k = record { lines = l; said = j; most = k.1 }
-    go (refused f l) j k =
-        absurd (never_both refl (sym k ∙ ap (λ (y : Outcome). reading_of {A = Unit {0}} y tt) e))
-
 pub past_far : (ps : List (List ℕ)) (p : ℕ) → AllSaid ps p → 64 < p → clauses_from ps ≡ refused 43 0
 past_far ps p W h = let z = W.most in past_many ps p W (omega arith)
-
-pub far_read : (ps : List (List ℕ)) (p : ℕ) (r : GrammarRead) → AllSaid ps p → 64 < p
-    → RulesRead r (refused 43 0) → RulesRead r (clauses_from ps)
-far_read ps p r W h k = subst (RulesRead r) (sym (past_far ps p W h)) k

@@ -2,19 +2,18 @@
 use mathlib.Core.Path.{◌≡◌, refl, sym, ◌∙◌, ap, subst}
 use mathlib.Core.Bool.{Bool, true, false, cond}
 use mathlib.Core.List.{List, [], ◌∷◌, append-nil}
-use mathlib.Core.Option.{Option, none, some}
+use Rattle.std.specs.Prelude.{Option, None, Some}
 use Prim.Native.Nat.{ℕ, zero, suc, ◌+◌, ◌-◌, ◌≤◌, ◌<◌, max}
 use native.Mathlib.Omega.{arith}
 use lib.ListN.{length, take, drop, length-drop, drop_of_length-le}
 use lib.Seq.{length-take-le}
 use lib.Dec.{leb}
 use borrow.Author.Tests.{le-leb, lt-leb}
+use Rattle.std.proofs.lemmas.Option.{same_Some}
 use Rattle.sets.proofs.Basics.{clash}
 use Rattle.fields.specs.declared.Cursor.{Cursor}
-use Rattle.fields.specs.declared.NumberField.{NumberField}
 use Rattle.fields.specs.Pieces.{before}
 use Rattle.fields.specs.Words.{numeral_of}
-use Rattle.fields.specs.Answers.{number_field_of}
 use Rattle.fields.proofs.Lines.{fields_of}
 use Rattle.fields.proofs.Pieces.{pieces_first}
 use Rattle.clauses.specs.Clauses.{Expr, alternatives}
@@ -22,8 +21,8 @@ use Rattle.clauses.specs.Expansion.{past_expr, size}
 use Rattle.clauses.specs.Emission.{emit}
 use Rattle.clauses.specs.Text.{Lex, many, WrittenAs, IsExpression, depth}
 use Rattle.clauses.proofs.Legible.{nothing_next}
-use Rattle.clauses.proofs.Deciding.{says?, max_is}
-use Rattle.clause_lines.specs.declared.Checked.{Checked}
+use Rattle.clauses.proofs.Deciding.{says?}
+use Rattle.clause_lines.specs.declared.ExpressionFault.{ExpressionFault}
 use Rattle.clause_lines.specs.Walks.{checked_of}
 use Rattle.clauses.proofs.Accepts.{accepts}
 use Rattle.lexemes.specs.Lexemes.{lexemes}
@@ -33,7 +32,8 @@ use Rattle.clause_rules.specs.Reading.{AlternativesRead}
 use Rattle.clause_lines.specs.ClauseLines.{ClauseLine, Said, good, unwritten, deep, shallow_only}
 use Rattle.clause_lines.specs.ClauseLines.{lexemes_say, expression, with_left, left_says}
 use Rattle.clause_lines.specs.ClauseLines.{clause_line}
-use Rattle.clause_sheets.specs.declared.LineChecked.{LineChecked}
+use Rattle.std.specs.Prelude.{Result, Ok, Err}
+use Rattle.sheets.specs.declared.Fault.{Fault}
 use Rattle.clause_sheets.specs.Checks.{line_checked, expression_checked, LineEmitted}
 use Rattle.fields.specs.Cursors.{bytes_left, fields_left, with_cursor, read_field}
 
@@ -77,37 +77,36 @@ module _ (s : List ℕ) (c : Cursor) (low : (c.at ≤ c.end) × (c.end ≤ lengt
 
   -- the number at the front of the line, and where the expression begins
   pub record Split (v : ℕ) (d : Cursor) : Type 0 where
-    pub number : numeral_of head ≡ some v
+    pub number : numeral_of head ≡ Some v
     pub at : d.at ≡ c.at + length head + 1
     pub end : d.end ≡ c.end
 
   pub split : (v : ℕ) (d : Cursor)
-      → NumberField.Is v d ≡ number_field_of (read_field numeral_of c (fields_left s c)) → Split v d
-  split v d e = go (numeral_of head) refl (e ∙ ap number_field_of read)
+      → Some (v, d) ≡ read_field numeral_of c (fields_left s c) → Split v d
+  split v d e = go (numeral_of head) refl (e ∙ read)
     where
       go : (o : Option ℕ) → numeral_of head ≡ o
-          → NumberField.Is v d ≡ number_field_of
-          (with_cursor o (record { at = c.at + length head + 1; end = c.end })) → Split v d
-      go none h q = absurd (clash cc)
-      go (some w) h q =
-          let i : v ≡ w = cc in
-          let j : d ≡ record { at = c.at + length head + 1; end = c.end } = cc in
+          → Some (v, d) ≡ with_cursor o
+          (record { at = c.at + length head + 1; end = c.end }) → Split v d
+      go None h q = absurd (clash cc)
+      go (Some w) h q =
+          let k = same_Some (v, d) (w, record { at = c.at + length head + 1; end = c.end }) q in
+          let j = ap (λ (x : ℕ × Cursor). x.1) k in
           record {
-            number = h ∙ ap some (sym i);
+            number = h ∙ ap Some (sym (ap (λ (x : ℕ × Cursor). x.0) k));
             at = ap (λ (x : Cursor). x.at) j;
             end = ap (λ (x : Cursor). x.end) j;
           }
 
-  pub unsplit : NumberField.Bad ≡ number_field_of (read_field numeral_of c (fields_left s c))
+  pub unsplit : None ≡ read_field numeral_of c (fields_left s c)
       → clause_line text ≡ unwritten
-  unsplit e = go (numeral_of head) refl (e ∙ ap number_field_of read)
+  unsplit e = go (numeral_of head) refl (e ∙ read)
     where
       go : (o : Option ℕ) → numeral_of head ≡ o
-          → NumberField.Bad ≡ number_field_of
-          (with_cursor o (record { at = c.at + length head + 1; end = c.end }))
+          → None ≡ with_cursor o (record { at = c.at + length head + 1; end = c.end })
           → clause_line text ≡ unwritten
-      go none h q = ap (λ (x : Option ℕ). left_says x (expression (drop (length head + 1) text))) h
-      go (some w) h q = absurd (clash cc)
+      go None h q = ap (λ (x : Option ℕ). left_says x (expression (drop (length head + 1) text))) h
+      go (Some w) h q = absurd (clash cc)
 
   module _ (v : ℕ) (d : Cursor) (S : Split v d) where
     by_left : clause_line text ≡ cond (leb v 63)
@@ -155,13 +154,13 @@ left_checked v (good e) = refl
 left_checked v unwritten = refl
 left_checked v deep = refl
 
-pub checked_as : (line x : List ℕ) (v : ℕ) (r : LineChecked)
+pub checked_as : (line x : List ℕ) (v : ℕ) (r : Result ℕ Fault)
     → r ≡ expression_checked (v + 1) (expression x)
     → clause_line line ≡ with_left v (expression x) → r ≡ line_checked (clause_line line)
 checked_as line x v r e h = e ∙ left_checked v (expression x) ∙ ap line_checked (sym h)
 
 pub checked_not : (line : List ℕ) → clause_line line ≡ unwritten
-    → LineChecked.Form ≡ line_checked (clause_line line)
+    → Err Fault.ClauseForm ≡ line_checked (clause_line line)
 checked_not line e = ap line_checked (sym e)
 
 -- an unwritten line has no rules
@@ -176,13 +175,13 @@ emitted_not line out e =
 -- what a good expression is
 pub record Says' (x : List ℕ) (e : Expr alternatives) : Type 0 where
   pub lexes : List Lex
-  pub lexed : lexemes x ≡ some lexes
+  pub lexed : lexemes x ≡ Some lexes
   pub written : WrittenAs (many e) lexes
 
 good_expression : (x : List ℕ) (e : Expr alternatives) → expression x ≡ good e → Says' x e
 good_expression x e h = go (lexemes x) refl h
   where
-    pick : (l : List Lex) → lexemes x ≡ some l → (d : Dec (IsExpression l))
+    pick : (l : List Lex) → lexemes x ≡ Some l → (d : Dec (IsExpression l))
         → shallow_only d ≡ good e
         → Says' x e
     pick l j (no f) q = absurd (clash cc)
@@ -199,8 +198,8 @@ good_expression x e h = go (lexemes x) refl h
         which false z = absurd (clash cc)
 
     go : (o : Option (List Lex)) → lexemes x ≡ o → lexemes_say o ≡ good e → Says' x e
-    go none j q = absurd (clash cc)
-    go (some l) j q = pick l j (says? l) q
+    go None j q = absurd (clash cc)
+    go (Some l) j q = pick l j (says? l) q
 
 emitted_line : (line x : List ℕ) (v : ℕ) (out : Emit) (r : PartEmit)
     → clause_line line ≡ with_left v (expression x) → AlternativesRead x 0 v out r
@@ -215,7 +214,7 @@ emitted_line line x v out r e R = record { adds = λ c h. go c (expression x) re
         let w : record { left = v; expr = k } ≡ c = cc in
         let g = good_expression x k j in
         let A₁ = (R.reads k g.lexes [] g.written nothing_next
-        (record { lexed = g.lexed ∙ ap some (sym (append-nil g.lexes)) })).adds in
+        (record { lexed = g.lexed ∙ ap Some (sym (append-nil g.lexes)) })).adds in
         subst (λ (y : ClauseLine). Adds out r.out (emit y.expr y.left out.next)
         (size y.expr)) w A₁
 
@@ -225,34 +224,30 @@ pub emitted_as : (line x : List ℕ) (v : ℕ) (out : Emit) (r : PartEmit) (p : 
 emitted_as line x v out r p e R q =
     subst (λ (y : Emit). LineEmitted line out y) q (emitted_line line x v out r e R)
 
-pub max_right : (a b : ℕ) → a < b → b ≡ max a b
-max_right a b h = sym (max_is a b b (omega arith) (omega arith) (λ k p q. q))
-
-pub max_left : (a b : ℕ) → b ≤ a → a ≡ max a b
-max_left a b h = sym (max_is a b a (omega arith) h (λ k p q. p))
-
-pub good_checked : (least p q : ℕ) (o : Said (Expr alternatives)) → checked_of o ≡ Checked.Good p
-    → q ≡ max least p → LineChecked.Good q ≡ expression_checked least o
+pub good_checked : (least p q : ℕ) (o : Said (Expr alternatives)) → checked_of o ≡ Ok p
+    → q ≡ max least p → Ok q ≡ expression_checked least o
 good_checked least p q (good e) h j = let z : past_expr e ≡ p = cc in
-    ap LineChecked.Good (j ∙ ap (max least) (sym z))
+    ap Ok (j ∙ ap (max least) (sym z))
 good_checked least p q unwritten h j = absurd (clash cc)
 good_checked least p q deep h j = absurd (clash cc)
 
-pub form_checked : (least : ℕ) (o : Said (Expr alternatives)) → checked_of o ≡ Checked.Unwritten
-    → LineChecked.Form ≡ expression_checked least o
+pub form_checked : (least : ℕ) (o : Said (Expr alternatives))
+    → checked_of o ≡ Err ExpressionFault.Unwritten
+    → Err Fault.ClauseForm ≡ expression_checked least o
 form_checked least (good e) h = absurd (clash cc)
 form_checked least unwritten h = refl
 form_checked least deep h = absurd (clash cc)
 
-pub deep_checked : (least : ℕ) (o : Said (Expr alternatives)) → checked_of o ≡ Checked.Deep
-    → LineChecked.Deep ≡ expression_checked least o
+pub deep_checked : (least : ℕ) (o : Said (Expr alternatives))
+    → checked_of o ≡ Err ExpressionFault.Deep
+    → Err Fault.ClauseDeep ≡ expression_checked least o
 deep_checked least (good e) h = absurd (clash cc)
 deep_checked least unwritten h = absurd (clash cc)
 deep_checked least deep h = refl
 
 pub checked_behind : (s : List ℕ) (c : Cursor) (low : (c.at ≤ c.end) × (c.end ≤ length s))
     (v : ℕ) (d : Cursor) → Split s c low v d → v ≤ 63 → d.at ≤ d.end
-    → (r : LineChecked) → r ≡ expression_checked (v + 1)
+    → (r : Result ℕ Fault) → r ≡ expression_checked (v + 1)
     (expression (take (d.end - d.at) (drop d.at s)))
     → r ≡ line_checked (clause_line (bytes_left s c))
 checked_behind s c low v d S h g r e = checked_as (bytes_left s c)

@@ -14,10 +14,8 @@ use Rattle.fields.specs.Pieces.{is_empty}
 use Rattle.fields.proofs.Lines.{more_left}
 use Rattle.sheets.proofs.Loop.{line_in, line_less, line_cut}
 use Rattle.sheets.specs.declared.Fault.{Fault}
-use Rattle.sheets.specs.declared.Outcome.{Outcome}
-use Rattle.sheets.specs.declared.Outcome.TheVariants.{Accepted, Refused}
-use Rattle.sheets.specs.Refusals.{number_of}
-use Rattle.sheets.specs.Promises.{reading_of}
+use Rattle.std.specs.Prelude.{Ok, Err}
+use Rattle.sheets.specs.Refusals.{number_of, RefusedAs}
 use Rattle.sheets.specs.Items.{Reading, accepted, refused, stop, end, on_step, items_from}
 use Rattle.clauses.specs.Expansion.{past_expr, past_all, size, size_all}
 use Rattle.clauses.specs.Emission.{emit}
@@ -25,10 +23,10 @@ use Rattle.clauses.proofs.Deciding.{max_is, max_assoc, max_zero}
 use Rattle.rule_output.specs.Emitting.{Emit, Adds}
 use Rattle.rule_output.proofs.Adding.{adds_then, adds_same, adds_nothing}
 use Rattle.clause_lines.specs.ClauseLines.{ClauseLine, Said, good, unwritten, deep, clause_line}
-use Rattle.clause_sheets.specs.declared.LineChecked.{LineChecked}
 use Rattle.clause_sheets.specs.ClauseSheets.{clause_said, clause_step, clauses_of}
 use Rattle.clause_sheets.specs.Emitted.{emit_all}
-use Rattle.clause_sheets.specs.Checks.{line_checked, PassedAs, Passing, LineEmitted}
+use Rattle.clause_sheets.specs.Ends.{AllSaid}
+use Rattle.clause_sheets.specs.Checks.{line_checked, Passing, LineEmitted}
 use Rattle.clause_sheets.specs.Checks.{LinesEmitted, Emitting}
 use Rattle.fields.specs.Cursors.{pieces_from, line_at, bytes_left}
 
@@ -121,20 +119,15 @@ pub pass_start : (s : List ℕ) (start : ℕ) → start ≤ length s → Passing
 pass_start s start h =
     record { low = h; few = omega arith; seen = []; count = refl; same = refl; most = refl }
 
-passed_refused : (x : Reading (List ClauseLine)) (f : Fault) (m : ℕ) (o : Outcome) (p : ℕ)
-    → x ≡ refused (number_of f) m → o ≡ Refused f m → PassedAs x o p
-passed_refused x f m o p e h = subst (λ (y : Reading (List ClauseLine)). PassedAs y o p) (sym e)
-    (ap (λ (y : Outcome). reading_of {A = Unit {0}} y tt) h)
-
 module _ {s : List ℕ} {start n p at : ℕ} (P : Passing s start n p at) {c : Cursor}
     (is : c ≡ line_at s at) where
   pub pass_good : (q p' : ℕ) → c.end < length s
-      → LineChecked.Good q ≡ line_checked (clause_line (bytes_left s c)) → p' ≡ max p q
+      → Ok q ≡ line_checked (clause_line (bytes_left s c)) → p' ≡ max p q
       → Passing s start (n + 1) p' (c.end + 1)
   pass_good q p' h g m = go (clause_line (bytes_left s c)) refl g
     where
       go : (o : Said ClauseLine) → clause_line (bytes_left s c) ≡ o
-          → LineChecked.Good q ≡ line_checked o → Passing s start (n + 1) p' (c.end + 1)
+          → Ok q ≡ line_checked o → Passing s start (n + 1) p' (c.end + 1)
       go unwritten j e = absurd (clash cc)
       go deep j e = absurd (clash cc)
       go (good k) j e =
@@ -154,36 +147,23 @@ module _ {s : List ℕ} {start n p at : ℕ} (P : Passing s start n p at) {c : C
 
   refused_at : (f : Fault) → items_from clause_step P.seen (pieces_from 10 s at)
       ≡ refused (number_of f) (length P.seen + 2)
-      → PassedAs (items_from clause_step [] (pieces_from 10 s start)) (Refused f (n + 2)) 0
-  refused_at f e = passed_refused _ f (length P.seen + 2) (Refused f (n + 2)) 0 (P.same ∙ e)
-      (ap (λ (k : ℕ). Refused f (k + 2)) (sym P.count))
+      → RefusedAs (items_from clause_step [] (pieces_from 10 s start)) f (n + 2)
+  refused_at f e = record {
+    is = P.same ∙ e ∙ ap (λ (k : ℕ). refused (number_of f) (k + 2)) P.count;
+  }
 
-  pub pass_form : c.end < length s → LineChecked.Form ≡ line_checked (clause_line (bytes_left s c))
-      → PassedAs (items_from clause_step [] (pieces_from 10 s start))
-      (Refused Fault.ClauseForm (n + 2)) 0
-  pass_form h g = refused_at Fault.ClauseForm
-      (whole s at P.low c is P.seen h ∙ go (clause_line (bytes_left s c)) g)
+  pub pass_bad : (f : Fault) → c.end < length s
+      → Err f ≡ line_checked (clause_line (bytes_left s c))
+      → RefusedAs (items_from clause_step [] (pieces_from 10 s start)) f (n + 2)
+  pass_bad f h g =
+      refused_at f (whole s at P.low c is P.seen h ∙ go (clause_line (bytes_left s c)) g)
     where
-      go : (o : Said ClauseLine) → LineChecked.Form ≡ line_checked o
+      go : (o : Said ClauseLine) → Err f ≡ line_checked o
           → on_step P.seen (clause_said o)
           (λ t. items_from clause_step (P.seen ++ t ∷ []) (pieces_from 10 s (c.end + 1)))
-          ≡ refused 41 (length P.seen + 2)
-      go unwritten e = refl
-      go deep e = absurd (clash cc)
-      go (good k) e = absurd (clash cc)
-
-  pub pass_deep : c.end < length s → LineChecked.Deep ≡ line_checked (clause_line (bytes_left s c))
-      → PassedAs (items_from clause_step [] (pieces_from 10 s start))
-      (Refused Fault.ClauseDeep (n + 2)) 0
-  pass_deep h g = refused_at Fault.ClauseDeep
-      (whole s at P.low c is P.seen h ∙ go (clause_line (bytes_left s c)) g)
-    where
-      go : (o : Said ClauseLine) → LineChecked.Deep ≡ line_checked o
-          → on_step P.seen (clause_said o)
-          (λ t. items_from clause_step (P.seen ++ t ∷ []) (pieces_from 10 s (c.end + 1)))
-          ≡ refused 42 (length P.seen + 2)
-      go unwritten e = absurd (clash cc)
-      go deep e = refl
+          ≡ refused (number_of f) (length P.seen + 2)
+      go unwritten e = let z : f ≡ Fault.ClauseForm = cc in rw z
+      go deep e = let z : f ≡ Fault.ClauseDeep = cc in rw z
       go (good k) e = absurd (clash cc)
 
   at_end : Bool → Reading (List ClauseLine)
@@ -191,20 +171,20 @@ module _ {s : List ℕ} {start n p at : ℕ} (P : Passing s start n p at) {c : C
       (λ t. items_from clause_step (P.seen ++ t ∷ []) (pieces_from 10 s (c.end + 1)))
 
   pub pass_open : length s ≤ c.end → (c.at ≡ c.end → ⊥)
-      → PassedAs (items_from clause_step [] (pieces_from 10 s start))
-      (Refused Fault.ClauseForm (n + 2)) 0
+      → RefusedAs (items_from clause_step [] (pieces_from 10 s start)) Fault.ClauseForm (n + 2)
   unfolding at_end
   pass_open h g = refused_at Fault.ClauseForm
       (open_line s at P.low c is P.seen h ∙ ap at_end
       (some_line s at P.low c is P.seen g))
 
-  pub pass_end : length s ≤ c.end → c.at ≡ c.end
-      → PassedAs (items_from clause_step [] (pieces_from 10 s start)) Accepted p
+  pub pass_end : length s ≤ c.end → c.at ≡ c.end → AllSaid (pieces_from 10 s start) p
   unfolding at_end
-  pass_end h g =
-      subst (λ (y : Reading (List ClauseLine)). PassedAs y Accepted p)
-      (sym (P.same ∙ open_line s at P.low c is P.seen h
-      ∙ ap at_end (empty_line s at P.low c is P.seen g))) (refl, P.most)
+  pass_end h g = record {
+    lines = P.seen;
+    said = P.same ∙ open_line s at P.low c is P.seen h
+        ∙ ap at_end (empty_line s at P.low c is P.seen g);
+    most = P.most;
+  }
 
 -- the second walk
 pub emit_start : (s : List ℕ) (start : ℕ) (out : Emit) → start ≤ length s

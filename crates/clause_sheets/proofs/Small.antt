@@ -4,7 +4,7 @@ use mathlib.Core.Path.{◌≡◌, refl, subst}
 use mathlib.Core.Logic.{⊎_elim}
 use mathlib.Core.Bool.{Bool, true, false, cond}
 use mathlib.Core.List.{List, [], ◌∷◌, ◌++◌, Memᴰ}
-use mathlib.Core.Option.{Option, none, some}
+use Rattle.std.specs.Prelude.{Option, None, Some}
 use Prim.Native.Nat.{ℕ, zero, suc, ◌+◌, ◌-◌, ◌≤◌, ◌<◌}
 use native.Mathlib.Nat.{le_refl}
 use native.Mathlib.Omega.{arith}
@@ -101,17 +101,17 @@ terms_written (or_text {k = k} {l = l} w v) h = let z = split k (bar ∷ l) h in
 
 -- the terminals of lexemes that are read are 0 to 63
 abbrev TermFound : LexFound → Type 0
-TermFound none = Unit {0}
-TermFound (some y) = TermLex y.0
+TermFound None = Unit {0}
+TermFound (Some y) = TermLex y.0
 
 ranged_term : (k : ℕ) (o : Option ℕ) → TermFound (ranged t k o)
-ranged_term k none = tt
-ranged_term k (some v) =
+ranged_term k None = tt
+ranged_term k (Some v) =
     either TermFound (leb v 63) (λ e. let z = leb→le v 63 (rw e tt) in omega arith) (λ e. tt)
 
 ranged_other : (k : ℕ) (o : Option ℕ) → TermFound (ranged n k o)
-ranged_other k none = tt
-ranged_other k (some v) = either TermFound (leb v 63) (λ e. tt) (λ e. tt)
+ranged_other k None = tt
+ranged_other k (Some v) = either TermFound (leb v 63) (λ e. tt) (λ e. tt)
 
 items_term : (s : List ℕ) → TermFound (items s)
 items_term s =
@@ -134,24 +134,24 @@ signs_term = (tt, (tt, (tt, (tt, (tt, (tt, (tt, (tt, (tt, (tt, (tt, (tt, (tt, (t
 lexeme_term : (s : List ℕ) → TermFound (lexeme s)
 lexeme_term s = first_term signs s signs_term
 
-every_onto : (x : Lex) (o : Option (List Lex)) (l : List Lex) → onto_lexemes x o ≡ some l
+every_onto : (x : Lex) (o : Option (List Lex)) (l : List Lex) → onto_lexemes x o ≡ Some l
     → TermLex x
-    → ((k : List Lex) → o ≡ some k → Every TermLex k) → Every TermLex l
-every_onto x none l e h f = absurd (clash cc)
-every_onto x (some k) l e h f = let z : ◌≡◌ {A = List Lex} (x ∷ k) l = cc in
+    → ((k : List Lex) → o ≡ Some k → Every TermLex k) → Every TermLex l
+every_onto x None l e h f = absurd (clash cc)
+every_onto x (Some k) l e h f = let z : ◌≡◌ {A = List Lex} (x ∷ k) l = cc in
     subst (λ (y : List Lex). Every TermLex y) z (h, f k refl)
 
-from_terms : (s : List ℕ) (k : ℕ) (l : List Lex) → from s k ≡ some l → Every TermLex l
+from_terms : (s : List ℕ) (k : ℕ) (l : List Lex) → from s k ≡ Some l → Every TermLex l
 from_terms [] k l e = let z : ◌≡◌ {A = List Lex} [] l = cc in
     subst (λ (y : List Lex). Every TermLex y) z tt
 from_terms (b ∷ s) (suc k) l e = from_terms s k l e
 from_terms (b ∷ s) zero l e =
     go (lexeme (b ∷ s)) (lexeme_term (b ∷ s)) e (λ j m h. from_terms s j m h)
   where
-    go : (o : LexFound) → TermFound o → then o (λ j. from s j) ≡ some l
-        → ((j : ℕ) (m : List Lex) → from s j ≡ some m → Every TermLex m) → Every TermLex l
-    go none h e f = absurd (clash cc)
-    go (some y) h e f = every_onto y.0 (from s (y.1 - 1)) l e h (f (y.1 - 1))
+    go : (o : LexFound) → TermFound o → then o (λ j. from s j) ≡ Some l
+        → ((j : ℕ) (m : List Lex) → from s j ≡ Some m → Every TermLex m) → Every TermLex l
+    go None h e f = absurd (clash cc)
+    go (Some y) h e f = every_onto y.0 (from s (y.1 - 1)) l e h (f (y.1 - 1))
 
 -- the expression that bytes say
 said_terms : (l : List Lex) (d : Dec (IsExpression l)) (e : Expr alternatives) → Every TermLex l
@@ -168,5 +168,5 @@ pub expression_terms : (s : List ℕ) (e : Expr alternatives) → expression s �
 expression_terms s e h = go (lexemes s) refl h
   where
     go : (o : Option (List Lex)) → lexemes s ≡ o → lexemes_say o ≡ good e → Terms e
-    go none j q = absurd (clash cc)
-    go (some l) j q = said_terms l (says? l) e (from_terms s 0 l j) q
+    go None j q = absurd (clash cc)
+    go (Some l) j q = said_terms l (says? l) e (from_terms s 0 l j) q

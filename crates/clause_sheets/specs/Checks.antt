@@ -1,38 +1,30 @@
 -- For inner functions: what the first walk over the lines finds.
-use Rattle.std.specs.Prelude.{◌≡◌, List, [], ℕ, ◌+◌, ◌≤◌, max, length}
+use Rattle.std.specs.Prelude.{◌≡◌, List, [], ℕ, ◌+◌, ◌≤◌, max, length, Result, Ok, Err}
 use Rattle.grammar.specs.declared.Grammar.{Grammar}
 use Rattle.grammar.specs.Trees.{Rules}
-use Rattle.grammar.specs.Content.{rules_of as rulesOf}
+use Rattle.grammar.specs.Content.{rules_of}
 use Rattle.clauses.specs.Expansion.{past_expr, past_all, size, size_all}
 use Rattle.clauses.specs.Clauses.{Expr, alternatives}
 use Rattle.clauses.specs.Emission.{emit}
 use Rattle.rule_output.specs.Emitting.{Emit, Adds}
 use Rattle.clause_lines.specs.ClauseLines.{ClauseLine, Said, good, unwritten, deep, clause_line}
-use Rattle.sheets.specs.declared.Outcome.{Outcome}
-use Rattle.sheets.specs.declared.Outcome.TheVariants.{Accepted}
-use Rattle.sheets.specs.Promises.{reading_of}
-use Rattle.sheets.specs.Items.{Reading, accepted, refused, items_from}
-use Rattle.clause_sheets.specs.declared.LineChecked.{LineChecked}
+use Rattle.sheets.specs.declared.Fault.{Fault}
+use Rattle.sheets.specs.Items.{accepted, items_from}
 use Rattle.clause_sheets.specs.ClauseSheets.{clause_step, clauses_of}
 use Rattle.clause_sheets.specs.Emitted.{emit_all}
 use Rattle.fields.specs.Cursors.{pieces_from}
 
 -- one past the largest nonterminal of a line
-abbrev pub line_checked : Said ClauseLine → LineChecked
-line_checked (good c) = LineChecked.Good (max (c.left + 1) (past_expr c.expr))
-line_checked unwritten = LineChecked.Form
-line_checked deep = LineChecked.Deep
+abbrev pub line_checked : Said ClauseLine → Result ℕ Fault
+line_checked (good c) = Ok (max (c.left + 1) (past_expr c.expr))
+line_checked unwritten = Err Fault.ClauseForm
+line_checked deep = Err Fault.ClauseDeep
 
 -- the same by the left, which is below `least`
-abbrev pub expression_checked : ℕ → Said (Expr alternatives) → LineChecked
-expression_checked least (good e) = LineChecked.Good (max least (past_expr e))
-expression_checked least unwritten = LineChecked.Form
-expression_checked least deep = LineChecked.Deep
-
--- the sheet's clauses are accepted with one past their largest nonterminal, or refused
-abbrev pub PassedAs : Reading (List ClauseLine) → Outcome → ℕ → Type 0
-PassedAs (accepted l) o p = (o ≡ Accepted) × (p ≡ past_all (clauses_of l))
-PassedAs (refused k n) o p = reading_of {A = Unit {0}} o tt ≡ refused k n
+abbrev pub expression_checked : ℕ → Said (Expr alternatives) → Result ℕ Fault
+expression_checked least (good e) = Ok (max least (past_expr e))
+expression_checked least unwritten = Err Fault.ClauseForm
+expression_checked least deep = Err Fault.ClauseDeep
 
 -- the first walk has come to a place
 pub record Passing (s : List ℕ) (start n p at : ℕ) : Type 0 where
@@ -64,4 +56,4 @@ pub record Emitting (s : List ℕ) (start : ℕ) (out r : Emit) (at : ℕ) : Typ
 -- r has just these rules, where there is room for all
 pub record RulesTaken (new : Rules) (r : Grammar) : Type 0 where
   pub count : length new ≤ 128 → r.count ≡ length new
-  pub rules : length new ≤ 128 → rulesOf r ≡ new
+  pub rules : length new ≤ 128 → rules_of r ≡ new

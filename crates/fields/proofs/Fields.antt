@@ -2,7 +2,7 @@
 use mathlib.Core.Path.{◌≡◌, refl, sym, ap, ◌∙◌}
 use mathlib.Core.List.{List, [], ◌∷◌}
 use mathlib.Core.Bool.{Bool, true, false}
-use mathlib.Core.Option.{Option, none, some}
+use Rattle.std.specs.Prelude.{Option, Some, None}
 use Prim.Native.Nat.{ℕ, ◌+◌, ◌-◌, ◌≤◌, ◌<◌}
 use native.Mathlib.Omega.{arith}
 use lib.ListN.{length, take, drop, length-drop}
@@ -46,43 +46,36 @@ module _ (s : List ℕ) (c : Cursor) (inside : c.end ≤ length s) where
       here = cut_step 32 (take c.end s) c.at e at_line ends;
     }
 
--- what is read at the cursor is what the first field is read as
-pub read_first : {X : Type 0} {s : List ℕ} {c : Cursor} {f : List ℕ} (read : List ℕ → Option X)
-    → FirstField s c f
-    → read_field read c (fields_left s c)
-    ≡ with_cursor (read f) (record { at = c.at + length f + 1; end = c.end })
-read_first read k = rw k.here refl
-
 -- what a field method answers, at a reader of fields that goes on with k
 module _ {R X : Type 0} (bad : R) (read : List ℕ → Option X) (k : X → List (List ℕ) → R) where
-  pub with_bad : (c : Cursor) (fs : List (List ℕ)) → none ≡ read_field read c fs
+  pub with_bad : (c : Cursor) (fs : List (List ℕ)) → None ≡ read_field read c fs
       → with_field bad read fs k ≡ bad
   with_bad c [] e = refl
   with_bad c (f ∷ fs) e = go (read f) e
     where
-      go : (o : Option X) → none ≡ with_cursor o (record { at = c.at + length f + 1; end = c.end })
+      go : (o : Option X) → None ≡ with_cursor o (record { at = c.at + length f + 1; end = c.end })
           → on_value bad o (λ v. k v fs) ≡ bad
-      go (some v) e = let z : ◌≡◌ {A = ℕ} 0 1 = cc in absurd (omega arith)
-      go none e = refl
+      go (Some v) e = let z : ◌≡◌ {A = ℕ} 0 1 = cc in absurd (omega arith)
+      go None e = refl
 
   with_first : (c d : Cursor) (f : List ℕ) (fs : List (List ℕ)) (v : X)
-      → some (v, d) ≡ read_field read c (f ∷ fs)
+      → Some (v, d) ≡ read_field read c (f ∷ fs)
       → (with_field bad read (f ∷ fs) k ≡ k v fs)
       × (d ≡ record { at = c.at + length f + 1; end = c.end })
   with_first c d f fs v e = go (read f) e
     where
-      go : (o : Option X) → some (v, d) ≡ with_cursor o
+      go : (o : Option X) → Some (v, d) ≡ with_cursor o
           (record { at = c.at + length f + 1; end = c.end })
           → (on_value bad o (λ w. k w fs) ≡ k v fs)
           × (d ≡ record { at = c.at + length f + 1; end = c.end })
-      go (some w) e =
+      go (Some w) e =
           let p : ◌≡◌ {A = X × Cursor} (w, record { at = c.at + length f + 1; end = c.end })
           (v, d) = cc in
           (ap (λ (x : X × Cursor). k x.0 fs) p, ap (λ (x : X × Cursor). x.1) (sym p))
-      go none e = let z : ◌≡◌ {A = ℕ} 0 1 = cc in absurd (omega arith)
+      go None e = let z : ◌≡◌ {A = ℕ} 0 1 = cc in absurd (omega arith)
 
   pub with_good : (s : List ℕ) (c d : Cursor) (v : X)
-      → some (v, d) ≡ read_field read c (fields_left s c)
+      → Some (v, d) ≡ read_field read c (fields_left s c)
       → (with_field bad read (fields_left s c) k ≡ k v (fields_left s d)) × (d.end ≡ c.end)
   with_good s c d v e = go (leb c.at (length (take c.end s))) refl
     where
@@ -97,7 +90,7 @@ module _ {R X : Type 0} (bad : R) (read : List ℕ → Option X) (k : X → List
                 (λ (x : Cursor). x.end) p.1,
           )
       go false h =
-          let b : read_field read c (fields_left s c) ≡ none = rw h in
+          let b : read_field read c (fields_left s c) ≡ None = rw h in
           let z : ◌≡◌ {A = ℕ} 0 1 = cc in absurd (omega arith)
 
 -- no field is left, and one is
@@ -117,8 +110,8 @@ module _ {R : Type 0} (Q : R → Type 0) (bad : R) (none_of : Q bad) where
   with_holds {X} read k h (f ∷ fs) = go (read f)
     where
       go : (o : Option X) → Q (on_value bad o (λ v. k v fs))
-      go (some v) = h v fs
-      go none = none_of
+      go (Some v) = h v fs
+      go None = none_of
 
   pub end_holds : (r : R) → Q r → (fs : List (List ℕ)) → Q (at_end_of bad fs r)
   end_holds r q [] = q

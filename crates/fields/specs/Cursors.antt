@@ -2,7 +2,7 @@
 use Rattle.std.specs.Prelude.{◌≡◌, ℕ, ◌+◌, ◌-◌, ◌≤◌, List, [], ◌∷◌, cond, length, drop, take, leb}
 use Rattle.fields.specs.Pieces.{pieces, before}
 use Rattle.fields.specs.declared.Cursor.{Cursor}
-use Rattle.std.proofs.Math.Option.{Option, none, some}
+use Rattle.std.specs.Prelude.{Option, Some, None}
 
 -- the pieces from a place on: none where the place is past the end
 abbrev pub pieces_from : ℕ → List ℕ → ℕ → List (List ℕ)
@@ -28,12 +28,12 @@ pub record FirstField (s : List ℕ) (c : Cursor) (f : List ℕ) : Type 0 where
 
 -- what a field was read as, with a cursor
 abbrev pub with_cursor : {X : Type 0} → Option X → Cursor → Option (X × Cursor)
-with_cursor (some v) c = some (v, c)
-with_cursor none c = none
+with_cursor (Some v) c = Some (v, c)
+with_cursor None c = None
 
 -- the first of the fields left at a cursor, where `read` says what a field's bytes are, and the
 -- cursor moved past it and past the blank behind it
 abbrev pub read_field : {X : Type 0} → (List ℕ → Option X) → Cursor → List (List ℕ)
     → Option (X × Cursor)
-read_field read c [] = none
+read_field read c [] = None
 read_field read c (f ∷ fs) = with_cursor (read f) (record { at = c.at + length f + 1; end = c.end })

@@ -1,11 +1,11 @@
 -- A line's fields, read one after the other: by a cursor, and by what is said of them.
 use Rattle.std.specs.Prelude.{ℕ, List, [], ◌∷◌}
-use Rattle.std.proofs.Math.Option.{Option, none, some}
+use Rattle.std.specs.Prelude.{Option, Some, None}
 
 module _ {R : Type 0} (bad : R) where
   abbrev pub on_value : {X : Type 0} → Option X → (X → R) → R
-  on_value (some v) k = k v
-  on_value none k = bad
+  on_value (Some v) k = k v
+  on_value None k = bad
 
   -- the first of the fields is one that `read` takes: what k says of it and of the fields behind it
   abbrev pub with_field : {X : Type 0} → (List ℕ → Option X) → List (List ℕ)

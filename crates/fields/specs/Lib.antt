@@ -1,7 +1,6 @@
 pub mod Pieces
 pub mod Words
 pub mod Fields
-pub mod Answers
 pub mod Parts
 pub mod Cursors
 pub mod Three

@@ -1,6 +1,7 @@
 -- Lines and fields: a sheet's bytes, parted by byte 10 and by byte 32. docs/FORMAT.md, "Bytes,
 -- lines, fields, numbers".
-use Rattle.std.specs.Prelude.{ℕ, List, [], ◌∷◌, Bool, true, false, cond, ◌&&◌, eqb}
+use Rattle.std.specs.Prelude.{ℕ, List, [], ◌∷◌, Bool, true, false, cond, eqb}
+use Rattle.std.specs.Cmp.Lexicographic.{pointwise}
 
 -- the pieces that bytes b part s into: one more than there are bytes b, empty ones too.
 -- A sheet's pieces by byte 10 are its lines and the bytes after the last byte 10; a line's pieces
@@ -19,10 +20,7 @@ is_empty (x ∷ xs) = false
 
 -- the same bytes
 abbrev pub same_bytes : List ℕ → List ℕ → Bool
-same_bytes [] [] = true
-same_bytes [] (y ∷ t) = false
-same_bytes (x ∷ s) [] = false
-same_bytes (x ∷ s) (y ∷ t) = eqb x y && same_bytes s t
+same_bytes = pointwise eqb
 
 -- the bytes before the first byte b
 abbrev pub before : ℕ → List ℕ → List ℕ

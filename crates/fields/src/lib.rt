@@ -2,12 +2,10 @@
 // letter, a lay word, `-`.
 #![tactic(auto)]
 
-ghost use Rattle.std.specs.Prelude.{◌≡◌, ◌+◌, ◌-◌, ◌≤◌, length, drop};
-ghost use Rattle.fields.specs.Pieces.{before, same_bytes};
+ghost use Rattle.std.specs.Prelude.{◌≡◌, ℕ, ◌+◌, ◌-◌, ◌≤◌, List, Option, length, drop};
+ghost use Rattle.fields.specs.Pieces.{before};
 ghost use Rattle.fields.specs.Parts.{Part};
 ghost use Rattle.fields.specs.Words.{digits_of, numeral_of, kind_of, lay_of, operand_of};
-ghost use Rattle.fields.specs.Answers.{as_number, as_kind, as_lay, as_operand, number_field_of};
-ghost use Rattle.fields.specs.Answers.{kind_field, lay_field, operand_field};
 ghost use Rattle.fields.specs.Cursors.{line_at, fields_left, read_field, FirstField};
 ghost use Rattle.fields.specs.Three.{ThreeTold};
 
@@ -21,7 +19,7 @@ pub struct Cursor {
 }
 
 // The kinds of rules, by their letters.
-#[derive(Clone, Copy)]
+#[derive(Clone, Copy, PartialEq, Eq)]
 pub enum Kind {
     E,
     A,
@@ -40,67 +38,16 @@ pub enum Lay {
     Indent,
 }
 
-// What stands as first or second in a rule line: `-`, whose value is 0, or a number.
-#[derive(Clone, Copy)]
-pub struct Operand {
-    pub dash: bool,
-    pub value: u32,
-}
+// What stands as first or second in a rule line: `-`, which is `None`, or a number.
+pub type Operand = Option<u32>;
 
-// A field's bytes read as a number, or no number.
-#[derive(Clone, Copy)]
-pub enum Number {
-    Is(u32),
-    Not,
-}
+// What a field can be read as.
+pub trait Readable {
+    // The value that bytes write, if they write one.
+    ghost written: { List ℕ → Option Self };
 
-#[derive(Clone, Copy)]
-pub enum KindWord {
-    Is(Kind),
-    Not,
-}
-
-#[derive(Clone, Copy)]
-pub enum LayWord {
-    Is(Lay),
-    Not,
-}
-
-#[derive(Clone, Copy)]
-pub enum OperandWord {
-    Is(Operand),
-    Not,
-}
-
-// The field at a cursor with the moved cursor, or no such field; the same of three.
-#[derive(Clone, Copy)]
-pub enum NumberField {
-    Is(u32, Cursor),
-    Bad,
-}
-
-#[derive(Clone, Copy)]
-pub enum ThreeNumbers {
-    Are(u32, u32, u32, Cursor),
-    Bad,
-}
-
-#[derive(Clone, Copy)]
-pub enum KindField {
-    Is(Kind, Cursor),
-    Bad,
-}
-
-#[derive(Clone, Copy)]
-pub enum LayField {
-    Is(Lay, Cursor),
-    Bad,
-}
-
-#[derive(Clone, Copy)]
-pub enum OperandField {
-    Is(Operand, Cursor),
-    Bad,
+    fn of(f: &[u8]) -> Option<Self>
+        ensures { result ≡ written f.now };
 }
 
 // The first place of byte b at or after `at`, or the end.
@@ -108,130 +55,92 @@ fn piece_end(s: &[u8], at: usize, b: u8) -> usize
     requires { at ≤ length s.now }
     ensures { result ≡ at + length (before b (drop at s.now)) }
 {
-    let mut i = at;
-    while i < s.len() {
+    for i in at..s.len() {
         if s[i] == b {
             return i;
         }
-        i += 1;
     }
-    i
-}
-
-// Are these the same bytes?
-pub fn same(a: &[u8], b: &[u8]) -> bool
-    ensures { result ≡ same_bytes a.now b.now }
-{
-    let n = a.len();
-    if n != b.len() {
-        return false;
-    }
-    let mut i = 0;
-    while i < n {
-        if a[i] != b[i] {
-            return false;
-        }
-        i += 1;
-    }
-    true
+    s.len()
 }
 
 // The number that up to five digits write.
-fn digits(f: &[u8]) -> Number
+fn digits(f: &[u8]) -> Option<u32>
     requires { length f.now ≤ 5 }
-    ensures { result ≡ as_number (digits_of 0 f.now) }
+    ensures { result ≡ digits_of 0 f.now }
 {
     let mut v: u32 = 0;
-    let mut i = 0;
-    while i < f.len() {
-        let b = f[i];
-        if b < b'0' {
-            return Number::Not;
+    for b in f {
+        if !b.is_ascii_digit() {
+            return None;
         }
-        if b'9' < b {
-            return Number::Not;
-        }
-        let d = b - b'0';
+        let d = *b - b'0';
         v = v * 10 + d as u32;
-        i += 1;
     }
-    Number::Is(v)
+    Some(v)
 }
 
 // A number of one to five digits.
-pub fn numeral(f: &[u8]) -> Number
-    ensures { result ≡ as_number (numeral_of f.now) }
+pub fn numeral(f: &[u8]) -> Option<u32>
+    ensures { result ≡ numeral_of f.now }
 {
     let n = f.len();
     if n == 0 {
-        return Number::Not;
+        return None;
     }
     if 5 < n {
-        return Number::Not;
+        return None;
     }
     digits(f)
 }
 
-// A kind letter.
-fn kind_word(f: &[u8]) -> KindWord
-    ensures { result ≡ as_kind (kind_of f.now) }
-{
-    if same(f, b"E") {
-        return KindWord::Is(Kind::E);
+impl Readable for u32 {
+    ghost written = { numeral_of };
+
+    fn of(f: &[u8]) -> Option<u32> {
+        numeral(f)
     }
-    if same(f, b"A") {
-        return KindWord::Is(Kind::A);
-    }
-    if same(f, b"U") {
-        return KindWord::Is(Kind::U);
-    }
-    if same(f, b"B") {
-        return KindWord::Is(Kind::B);
-    }
-    KindWord::Not
 }
 
-// A lay word.
-pub fn lay_word(f: &[u8]) -> LayWord
-    ensures { result ≡ as_lay (lay_of f.now) }
-{
-    if same(f, b"none") {
-        return LayWord::Is(Lay::None);
+// A kind letter.
+impl Readable for Kind {
+    ghost written = { kind_of };
+
+    fn of(f: &[u8]) -> Option<Kind> {
+        match f {
+            b"E" => Some(Kind::E),
+            b"A" => Some(Kind::A),
+            b"U" => Some(Kind::U),
+            b"B" => Some(Kind::B),
+            _ => None,
+        }
     }
-    if same(f, b"offside") {
-        return LayWord::Is(Lay::Offside);
+}
+
+impl Readable for Lay {
+    ghost written = { lay_of };
+
+    fn of(f: &[u8]) -> Option<Lay> {
+        match f {
+            b"none" => Some(Lay::None),
+            b"offside" => Some(Lay::Offside),
+            b"offalign" => Some(Lay::Offalign),
+            b"single" => Some(Lay::Single),
+            b"align" => Some(Lay::Align),
+            b"indent" => Some(Lay::Indent),
+            _ => None,
+        }
     }
-    if same(f, b"offalign") {
-        return LayWord::Is(Lay::Offalign);
-    }
-    if same(f, b"single") {
-        return LayWord::Is(Lay::Single);
-    }
-    if same(f, b"align") {
-        return LayWord::Is(Lay::Align);
-    }
-    if same(f, b"indent") {
-        return LayWord::Is(Lay::Indent);
-    }
-    LayWord::Not
 }
 
 // `-`, or a number.
-fn operand_word(f: &[u8]) -> OperandWord
-    ensures { result ≡ as_operand (operand_of f.now) }
-{
-    if same(f, b"-") {
-        return OperandWord::Is(Operand {
-            dash: true,
-            value: 0,
-        });
-    }
-    match numeral(f) {
-        Number::Is(v) => OperandWord::Is(Operand {
-            dash: false,
-            value: v,
-        }),
-        Number::Not => OperandWord::Not,
+impl Readable for Operand {
+    ghost written = { operand_of };
+
+    fn of(f: &[u8]) -> Option<Operand> {
+        if let b"-" = f {
+            return Some(None);
+        }
+        Some(Some(numeral(f)?))
     }
 }
 
@@ -267,95 +176,30 @@ impl Cursor {
         &line[at..e]
     }
 
-    // The number at the cursor.
-    pub fn number(self, s: &[u8]) -> NumberField
+    // The field at the cursor as a word of a kind, and the cursor moved behind it; or `None` where
+    // no field is left, or the field is no such word.
+    pub fn read<W: Readable>(self, s: &[u8]) -> Option<(W, Cursor)>
         requires { self.end ≤ length s.now }
-        ensures { result ≡ number_field_of
-            (read_field numeral_of self (fields_left s.now self)) }
+        ensures { result ≡ read_field W.written self (fields_left s.now self) }
     {
-        let at = self.at;
         let end = self.end;
-        if end < at {
-            return NumberField::Bad;
+        if end < self.at {
+            return None;
         }
         let f = self.field(s);
-        let next = at + f.len() + 1;
-        match numeral(f) {
-            Number::Is(v) => NumberField::Is(v, Cursor { at: next, end }),
-            Number::Not => NumberField::Bad,
-        }
+        let at = self.at + f.len() + 1;
+        let v = W::of(f)?;
+        Some((v, Cursor { at, end }))
     }
 
     // The three numbers at the cursor, with which lines of four sheets begin.
-    pub fn three(self, s: &[u8]) -> ThreeNumbers
+    pub fn three(self, s: &[u8]) -> Option<(u32, u32, u32, Cursor)>
         requires { self.end ≤ length s.now }
         ensures { ThreeTold s.now self result }
     {
-        let NumberField::Is(x, d) = self.number(s) else {
-            return ThreeNumbers::Bad;
-        };
-        let NumberField::Is(y, e) = d.number(s) else {
-            return ThreeNumbers::Bad;
-        };
-        let NumberField::Is(z, f) = e.number(s) else {
-            return ThreeNumbers::Bad;
-        };
-        ThreeNumbers::Are(x, y, z, f)
-    }
-
-    // The kind letter at the cursor.
-    pub fn kind(self, s: &[u8]) -> KindField
-        requires { self.end ≤ length s.now }
-        ensures { result ≡ kind_field (read_field kind_of self
-            (fields_left s.now self)) }
-    {
-        let at = self.at;
-        let end = self.end;
-        if end < at {
-            return KindField::Bad;
-        }
-        let f = self.field(s);
-        let next = at + f.len() + 1;
-        match kind_word(f) {
-            KindWord::Is(v) => KindField::Is(v, Cursor { at: next, end }),
-            KindWord::Not => KindField::Bad,
-        }
-    }
-
-    // The `-` or the number at the cursor.
-    pub fn operand(self, s: &[u8]) -> OperandField
-        requires { self.end ≤ length s.now }
-        ensures { result ≡ operand_field
-            (read_field operand_of self (fields_left s.now self)) }
-    {
-        let at = self.at;
-        let end = self.end;
-        if end < at {
-            return OperandField::Bad;
-        }
-        let f = self.field(s);
-        let next = at + f.len() + 1;
-        match operand_word(f) {
-            OperandWord::Is(v) => OperandField::Is(v, Cursor { at: next, end }),
-            OperandWord::Not => OperandField::Bad,
-        }
-    }
-
-    // The lay word at the cursor.
-    pub fn lay(self, s: &[u8]) -> LayField
-        requires { self.end ≤ length s.now }
-        ensures { result ≡ lay_field (read_field lay_of self (fields_left s.now self)) }
-    {
-        let at = self.at;
-        let end = self.end;
-        if end < at {
-            return LayField::Bad;
-        }
-        let f = self.field(s);
-        let next = at + f.len() + 1;
-        match lay_word(f) {
-            LayWord::Is(v) => LayField::Is(v, Cursor { at: next, end }),
-            LayWord::Not => LayField::Bad,
-        }
+        let (x, d) = self.read(s)?;
+        let (y, e) = d.read(s)?;
+        let (z, f) = e.read(s)?;
+        Some((x, y, z, f))
     }
 }

@@ -6,28 +6,24 @@ ghost use Rattle.std.specs.Prelude.{◌≡◌, ◌+◌, ◌≤◌, ◌<◌};
 ghost use Rattle.sets.specs.Says.{Says};
 
 // A line and a column are separate units: one is never compared with the other.
-#[derive(Clone, Copy)]
+#[derive(Clone, Copy, PartialEq, Eq, PartialOrd, Ord)]
 pub struct Line(pub u16);
 
-#[derive(Clone, Copy)]
+#[derive(Clone, Copy, PartialEq, Eq, PartialOrd, Ord)]
 pub struct Column(pub u16);
 
-// Does line `a` come before line `b`? Lines are compared by this function alone.
+// Does line `a` come before line `b`?
 pub fn line_before(a: Line, b: Line) -> bool
     ensures { Says result (a.0 < b.0) }
 {
-    let m = a.0;
-    let n = b.0;
-    if m < n { true } else { false }
+    a < b
 }
 
-// Does column `a` come before column `b`? Columns are compared by this function alone.
-pub fn column_before(a: Column, b: Column) -> bool
-    ensures { Says result (a.0 < b.0) }
+// Does column `c` come before column `d`?
+pub fn column_before(c: Column, d: Column) -> bool
+    ensures { Says result (c.0 < d.0) }
 {
-    let c = a.0;
-    let d = b.0;
-    if c < d { true } else { false }
+    c < d
 }
 
 // How many columns a token takes up, from its column on. It is compared with nothing, and `past`

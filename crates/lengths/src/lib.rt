@@ -44,10 +44,8 @@ fn sums(s: u64, t: u64) -> u64
     ensures { Has (SumTo s t 8) result }
 {
     let mut r: u64 = 0;
-    let mut i: u8 = 0;
-    while i < 8 {
+    for i in 0u8..8 {
         r = joined(r, s, t, i);
-        i += 1;
     }
     r
 }
@@ -134,14 +132,10 @@ fn pass(g: Grammar, x: Index, new: u64) -> Growth
     requires { Held g × Sound (rules_of g) x × Open (rules_of g) x new }
     ensures { LengthsPassed (rules_of g) g.count x result.index result.grown }
 {
-    let count = g.count;
     let mut w = Growth { index: x, grown: 0 };
-    let mut p: usize = 0;
-    while p < count {
+    for p in 0..g.count {
         let r = g.rules[p];
-        let k = r.clause;
-        p += 1;
-        if !names(new | w.grown, k) {
+        if !names(new | w.grown, r.clause) {
             continue;
         }
         w = grow(w, r);
@@ -159,8 +153,7 @@ fn completed(g: Grammar, x: Index, from: u64) -> Index
     let mut new = from;
     loop {
         let w = pass(g, known, new);
-        let next = w.index;
-        known = next;
+        known = w.index;
         new = w.grown;
         if new == 0 {
             return known;

@@ -1,14 +1,13 @@
 -- Laws of lexemes: each has one byte or more, and the rest of the bytes are lexemes of their own.
 use mathlib.Core.Path.{◌≡◌, refl, sym, ◌∙◌, ap}
-use mathlib.Core.Bool.{Bool, true, false, cond}
+use mathlib.Core.Bool.{Bool, true, false, cond, ◌&&◌}
 use mathlib.Core.List.{List, [], ◌∷◌}
-use mathlib.Core.Option.{Option, none, some}
+use Rattle.std.specs.Prelude.{Option, None, Some}
 use Prim.Native.Nat.{ℕ, zero, suc, ◌+◌, ◌-◌, ◌≤◌, ◌<◌}
 use native.Mathlib.Omega.{arith}
-use lib.ListN.{length, drop, take, length-drop, get_or, drop_of_length-le}
-use native.Mathlib.Numerals.{add-one}
-use borrow.Author.Tests.{eq-eqb, ne_eqb, le-leb, lt-leb}
-use lib.Seq.{drop-cons, drop-drop}
+use lib.ListN.{length, drop, take, length-drop, get_or}
+use borrow.Author.Tests.{le-leb}
+use lib.Seq.{drop-drop}
 use lib.Dec.{leb, eqb}
 use Rattle.sets.proofs.Basics.{clash}
 use Rattle.sets.proofs.Basics.{both, never}
@@ -20,16 +19,16 @@ use Rattle.lexemes.specs.declared.Lexeme.{Lexeme}
 use Rattle.lexemes.specs.Lexemes.{LexFound, starts, front_digits, ranged, numbered, items}
 use Rattle.lexemes.specs.Lexemes.{Sign, signs, first_sign, lexeme, onto_lexemes, then, from}
 use Rattle.lexemes.specs.Lexemes.{lexemes}
-use Rattle.lexemes.specs.Answers.{lexeme_of, as_lexed, standing, Front, NoBytesLeft}
+use Rattle.lexemes.specs.Answers.{lexeme_of, as_lexed, lexed_at, standing, Front, NoBytesLeft}
 use Rattle.lexemes.specs.Answers.{LexemeTells}
 use Rattle.lexemes.specs.Answers.{Numbers, NumberAt, Lexes}
-use Rattle.fields.proofs.Pick.{hit, miss, either}
-use Rattle.fields.specs.declared.Number.{Number}
-use Rattle.fields.specs.Answers.{as_number}
+use Rattle.fields.proofs.Pick.{hit, either}
+use Rattle.std.specs.List.{starts_with}
+use Rattle.std.specs.Prelude.{unwrap_or}
 
 -- a lexeme that is found has at least one byte, and no more than there are
 pub record Fits (s : List ℕ) (o : LexFound) : Type 0 where
-  pub has : (x : Lex) (k : ℕ) → o ≡ some (x, k) → (1 ≤ k) × (k ≤ length s)
+  pub has : (x : Lex) (k : ℕ) → o ≡ Some (x, k) → (1 ≤ k) × (k ≤ length s)
 
 starts_length : (p s : List ℕ) → starts p s ≡ true → length p ≤ length s
 starts_length [] s e = omega arith
@@ -37,10 +36,10 @@ starts_length (x ∷ p) [] e = never e
 starts_length (x ∷ p) (y ∷ s) e = let z = starts_length p s (both (eqb x y) (starts p s) e).1 in
     omega arith
 
-fits_none : (s : List ℕ) → Fits s none
+fits_none : (s : List ℕ) → Fits s None
 fits_none s = record { has = λ x k e. absurd (clash cc) }
 
-fits_some : (s : List ℕ) (x : Lex) (k : ℕ) → 1 ≤ k → k ≤ length s → Fits s (some (x, k))
+fits_some : (s : List ℕ) (x : Lex) (k : ℕ) → 1 ≤ k → k ≤ length s → Fits s (Some (x, k))
 fits_some s x k p q =
     record {
       has = λ y l e. let u : ◌≡◌ {A = Lex × ℕ} (x, k) (y, l) = cc in let z : k ≡ l =
@@ -53,8 +52,8 @@ fits_cond s true o r f g = f refl
 fits_cond s false o r f g = g
 
 fits_sign : (s p : List ℕ) (x : Lex) (r : LexFound) → 1 ≤ length p → Fits s r
-    → Fits s (cond (starts p s) (some (x, length p)) r)
-fits_sign s p x r l g = fits_cond s (starts p s) (some (x, length p)) r
+    → Fits s (cond (starts p s) (Some (x, length p)) r)
+fits_sign s p x r l g = fits_cond s (starts p s) (Some (x, length p)) r
     (λ e. fits_some s x (length p) l (starts_length p s e)) g
 
 pub digits_length : (s : List ℕ) → length (front_digits s) ≤ length s
@@ -74,15 +73,15 @@ fits_number s p f h e = go (numeral_of (front_digits (drop 1 s)))
     bound = omega (arith, digits_length (drop 1 s), length-drop 1 s, starts_length p s e)
 
     go : (o : Option ℕ) → Fits s (ranged f (1 + length (front_digits (drop 1 s))) o)
-    go none = fits_none s
-    go (some v) = fits_cond s (leb v 63) (some (f v, 1 + length (front_digits (drop 1 s)))) none
+    go None = fits_none s
+    go (Some v) = fits_cond s (leb v 63) (Some (f v, 1 + length (front_digits (drop 1 s)))) None
         (λ z. fits_some s (f v) _ (omega arith) bound) (fits_none s)
 
 fits_items : (s : List ℕ) → Fits s (items s)
 fits_items s =
     fits_cond s (starts (110 ∷ []) s) (numbered n (drop 1 s)) _
     (λ e. fits_number s (110 ∷ []) n refl e)
-    (fits_cond s (starts (116 ∷ []) s) (numbered t (drop 1 s)) none
+    (fits_cond s (starts (116 ∷ []) s) (numbered t (drop 1 s)) None
     (λ e. fits_number s (116 ∷ []) t refl e) (fits_none s))
 
 -- every sign has a byte
@@ -147,14 +146,14 @@ standing_within p s = either (λ k. k ≤ length s) (starts p s) (starts_length 
 -- the search for the first sign has come to the one with the number i: it stands there
 pub search_stands : (l : List Sign) (s : List ℕ) (i : ℕ) (d : Sign) → i < length l
     → 0 < standing (get_or l i d).bytes s
-    → first_sign (drop i l) s ≡ some ((get_or l i d).lex, standing (get_or l i d).bytes s)
+    → first_sign (drop i l) s ≡ Some ((get_or l i d).lex, standing (get_or l i d).bytes s)
 search_stands [] s i d h k = absurd (omega arith)
 search_stands (x ∷ l) s (suc i) d h k = search_stands l s i d (omega arith) k
 search_stands (x ∷ l) s zero d h k = go (starts x.bytes s) k
   where
     go : (b : Bool) → 0 < cond b (length x.bytes) 0
-        → cond b (some (x.lex, length x.bytes)) (first_sign l s)
-        ≡ some (x.lex, cond b (length x.bytes) 0)
+        → cond b (Some (x.lex, length x.bytes)) (first_sign l s)
+        ≡ Some (x.lex, cond b (length x.bytes) 0)
     go true k = refl
     go false k = absurd (omega arith)
 
@@ -166,7 +165,7 @@ search_on (x ∷ l) s (suc i) d b h k = search_on l s i d b.1 (omega arith) k
 search_on (x ∷ l) s zero d b h k = go (starts x.bytes s) k
   where
     go : (c : Bool) → cond c (length x.bytes) 0 ≡ 0
-        → cond c (some (x.lex, length x.bytes)) (first_sign l s) ≡ first_sign l s
+        → cond c (Some (x.lex, length x.bytes)) (first_sign l s) ≡ first_sign l s
     go true k = absurd (omega (arith, b.0))
     go false k = refl
 
@@ -178,7 +177,7 @@ from_drop (b ∷ s) zero h = refl
 from_drop (b ∷ s) (suc k) h = from_drop s k (omega arith)
 
 -- the lexemes of bytes that begin with a lexeme
-front_of : (s : List ℕ) (x : Lex) (k : ℕ) → lexeme s ≡ some (x, k) → 1 ≤ length s
+front_of : (s : List ℕ) (x : Lex) (k : ℕ) → lexeme s ≡ Some (x, k) → 1 ≤ length s
     → lexemes s ≡ onto_lexemes x (lexemes (drop k s))
 front_of [] x k e h = absurd (omega arith)
 front_of (b ∷ s) x zero e h = let z = (fits_lexeme (b ∷ s)).has x zero e in absurd (omega arith)
@@ -190,7 +189,7 @@ front_of (b ∷ s) x (suc k) e h =
     less_one : (j : ℕ) → suc j - 1 ≡ j
     less_one j = omega arith
 
-front_none : (s : List ℕ) → lexeme s ≡ none → 1 ≤ length s → lexemes s ≡ none
+front_none : (s : List ℕ) → lexeme s ≡ None → 1 ≤ length s → lexemes s ≡ None
 front_none [] e h = absurd (omega arith)
 front_none (b ∷ s) e h = ap (λ (o : LexFound). then o (λ j. from s j)) e
 
@@ -215,13 +214,13 @@ found_tells s at h = go (lexeme (drop at s)) refl
     long = omega (arith, length-drop at s)
 
     go : (o : LexFound) → lexeme (drop at s) ≡ o → Lexes s at (as_lexed at o)
-    go none e = record {
+    go None e = record {
       from = omega arith;
       within = omega arith;
       tells = record
           { front = front_none (drop at s) e long };
     }
-    go (some y) e =
+    go (Some y) e =
         let z = (fits_lexeme (drop at s)).has y.0 y.1 e in
         record {
           from = omega arith;
@@ -244,84 +243,7 @@ none_left s at h =
     gone [] e = refl
     gone (x ∷ r) e = absurd (omega arith)
 
-module _ (p s : List ℕ) (i j : ℕ) where
-  pub starts_end : length p ≤ i → starts (drop i p) (drop j s) ≡ true
-  starts_end h = rw (drop_of_length-le p {i = i} h) refl
-
-  pub starts_short : i < length p → length s ≤ j → starts (drop i p) (drop j s) ≡ false
-  starts_short h k = rw (drop-cons p i 0 h, drop_of_length-le s {i = j} k) refl
-
-  pub starts_differ : i < length p → j < length s → (get_or p i 0 ≡ get_or s j 0 → ⊥)
-      → starts (drop i p) (drop j s) ≡ false
-  starts_differ h k d =
-      rw (drop-cons p i 0 h, drop-cons s j 0 k, ne_eqb (get_or p i 0) (get_or s j 0) d) refl
-
-  pub starts_more : i < length p → j < length s → get_or p i 0 ≡ get_or s j 0
-      → starts (drop i p) (drop j s) ≡ starts (drop (i + 1) p) (drop (j + 1) s)
-  starts_more h k d = rw (
-    drop-cons p i 0 h,
-    drop-cons s j 0 k,
-    eq-eqb (get_or p i 0) (get_or s j 0) d,
-    add-one i,
-    add-one j,
-  ) refl
-
-module _ (s : List ℕ) (i : ℕ) where
-  pub digits_over : length s ≤ i → front_digits (drop i s) ≡ []
-  digits_over h = rw (drop_of_length-le s {i = i} h) refl
-
-  pub digits_low : i < length s → get_or s i 0 < 48 → front_digits (drop i s) ≡ []
-  digits_low h l = rw (drop-cons s i 0 h, lt-leb 48 (get_or s i 0) l) refl
-
-  pub digits_high : i < length s → 48 ≤ get_or s i 0 → 57 < get_or s i 0
-      → front_digits (drop i s) ≡ []
-  digits_high h l u =
-      rw (drop-cons s i 0 h, le-leb 48 (get_or s i 0) l, lt-leb (get_or s i 0) 57 u) refl
-
-  pub digits_more : i < length s → 48 ≤ get_or s i 0 → get_or s i 0 ≤ 57
-      → front_digits (drop i s) ≡ get_or s i 0 ∷ front_digits (drop (i + 1) s)
-  digits_more h l u =
-      rw (drop-cons s i 0 h, le-leb 48 (get_or s i 0) l, le-leb (get_or s i 0) 57 u, add-one) refl
-
-pub starts_begin : (p s : List ℕ) (at : ℕ)
-    → starts p (drop at s) ≡ starts (drop 0 p) (drop (at + 0) s)
-starts_begin p s at = ap (λ (k : ℕ). starts p (drop k s)) (zero_right at)
-  where
-    zero_right : (k : ℕ) → k ≡ k + 0
-    zero_right k = omega arith
-
-pub next_place : (p s : List ℕ) (at i : ℕ)
-    → starts (drop (i + 1) p) (drop (at + i + 1) s) ≡ starts (drop (i + 1) p)
-    (drop (at + (i + 1)) s)
-next_place p s at i = ap (λ (k : ℕ). starts (drop (i + 1) p) (drop k s)) (step at i)
-  where
-    step : (a b : ℕ) → a + b + 1 ≡ a + (b + 1)
-    step a b = omega arith
-
--- what a number's field answers, taken back
-pub is_number : (o : Option ℕ) (v : ℕ) → as_number o ≡ Number.Is v → o ≡ some v
-is_number none v e = absurd (clash cc)
-is_number (some w) v e = let z : w ≡ v = cc in ap some z
-
-pub numbers_low : (o : Option ℕ) (v : ℕ) → o ≡ some v → v ≤ 63 → Numbers o v
-numbers_low o v e h = record { is = λ l. e; isnt = λ l f k. absurd (omega arith) }
-
-pub numbers_high : (o : Option ℕ) (v : ℕ) → o ≡ some v → 63 < v → Numbers o 64
-numbers_high o v e h = record {
-  is = λ l. absurd (omega arith);
-  isnt = λ l f k. ap (ranged f k) e
-      ∙ miss (lt-leb v 63 h) _ _;
-}
-
--- the number that a field's answer gives
-pub number_low : (o : Option ℕ) (v : ℕ) → Number.Is v ≡ as_number o → v ≤ 63 → Numbers o v
-number_low o v e h = numbers_low o v (is_number o v (sym e)) h
-
-pub number_high : (o : Option ℕ) (v : ℕ) → Number.Is v ≡ as_number o → 63 < v → Numbers o 64
-number_high o v e h = numbers_high o v (is_number o v (sym e)) h
-
-module _ (s : List ℕ) (at e v : ℕ) (h : e ≡ at + 1 + length (front_digits (drop (at + 1) s)))
-    (g : Numbers (numeral_of (take (e - (at + 1)) (drop (at + 1) s))) v) where
+module _ (s : List ℕ) (at e : ℕ) (h : e ≡ at + 1 + length (front_digits (drop (at + 1) s))) where
   same_digits : take (e - (at + 1)) (drop (at + 1) s) ≡ front_digits (drop 1 (drop at s))
   same_digits =
       ap (λ (k : ℕ). take k (drop (at + 1) s))
@@ -341,19 +263,36 @@ module _ (s : List ℕ) (at e v : ℕ) (h : e ≡ at + 1 + length (front_digits 
   place : at + (1 + length (front_digits (drop 1 (drop at s)))) ≡ e
   place = let z = ap (λ (r : List ℕ). length (front_digits r)) (drop-drop 1 at s) in omega arith
 
-  pub number_at : NumberAt s at (record { value = v; end = e })
-  number_at =
-      record {
-        is = λ l f. ap (λ (o : Option ℕ). as_lexed at
-            (ranged f (1 + length (front_digits (drop 1 (drop at s)))) o))
-            (ap numeral_of (sym same_digits) ∙ g.is l)
-            ∙ ap (as_lexed at) (hit (le-leb v 63 (omega arith)) _ _)
-            ∙ ap (λ (k : ℕ). record { lexeme = lexeme_of (f v); end = k }) place;
-        isnt =
-            λ l f. ap (λ (o : Option ℕ). as_lexed at
-            (ranged f (1 + length (front_digits (drop 1 (drop at s)))) o))
-            (ap numeral_of (sym same_digits)) ∙ ap (as_lexed at) (g.isnt l f _);
-      }
+  number_of : (f : ℕ → Lex) → numbered f (drop 1 (drop at s))
+      ≡ ranged f (1 + length (front_digits (drop 1 (drop at s))))
+      (numeral_of (take (e - (at + 1)) (drop (at + 1) s)))
+  number_of f = ap (λ (r : List ℕ). ranged f (1 + length (front_digits (drop 1 (drop at s))))
+      (numeral_of r)) (sym same_digits)
+
+  pub number_there : (v : ℕ)
+      → Numbers (numeral_of (take (e - (at + 1)) (drop (at + 1) s))) (Some v)
+      → NumberAt s at (Some (v, e))
+  number_there v g f =
+      ap (lexed_at at) (number_of f
+      ∙ ap (ranged f (1 + length (front_digits (drop 1 (drop at s))))) g.1
+      ∙ hit (le-leb v 63 g.0) _ _)
+      ∙ ap (λ (k : ℕ). Some (record { lexeme = lexeme_of (f v); end = k })) place
+
+  pub number_not : Numbers (numeral_of (take (e - (at + 1)) (drop (at + 1) s))) None
+      → NumberAt s at None
+  number_not g f = ap (lexed_at at) (number_of f ∙ g f _)
+
+-- what stands at a place, where something or nothing was found
+pub lexed_or : (at : ℕ) (o : LexFound)
+    → unwrap_or (lexed_at at o) (record { lexeme = Lexeme.Not; end = at }) ≡ as_lexed at o
+lexed_or at (Some y) = refl
+lexed_or at None = refl
+
+-- the bytes at the front, compared at once
+pub starts_take : (p s : List ℕ) → starts_with eqb s p ≡ starts p s
+starts_take [] s = refl
+starts_take (x ∷ p) [] = refl
+starts_take (x ∷ p) (y ∷ s) = ap (λ (b : Bool). eqb x y && b) (starts_take p s)
 
 pub starts_one : (s : List ℕ) (at x : ℕ) → starts (x ∷ []) (drop at s) ≡ true → at < length s
 starts_one s at x e = omega (arith, starts_length (x ∷ []) (drop at s) e, length-drop at s)
@@ -361,23 +300,23 @@ starts_one s at x e = omega (arith, starts_length (x ∷ []) (drop at s) e, leng
 -- the lexeme told at a place is the first of the lexemes there, and the others stand behind it
 pub record First (s : List ℕ) (at : ℕ) (l : Lexeme) (e : ℕ) (x : Lex) (k : List Lex) : Type 0 where
   pub same : l ≡ lexeme_of x
-  pub rest : lexemes (drop e s) ≡ some k
+  pub rest : lexemes (drop e s) ≡ Some k
   pub further : at < e
 
-onto_first : (y x : Lex) (o : Option (List Lex)) (k : List Lex) → onto_lexemes y o ≡ some (x ∷ k)
-    → (y ≡ x) × (o ≡ some k)
-onto_first y x none k e = absurd (clash cc)
-onto_first y x (some l) k e = let z : ◌≡◌ {A = List Lex} (y ∷ l) (x ∷ k) = cc in
-    (let u : y ≡ x = cc in u, let u : l ≡ k = cc in ap some u)
+onto_first : (y x : Lex) (o : Option (List Lex)) (k : List Lex) → onto_lexemes y o ≡ Some (x ∷ k)
+    → (y ≡ x) × (o ≡ Some k)
+onto_first y x None k e = absurd (clash cc)
+onto_first y x (Some l) k e = let z : ◌≡◌ {A = List Lex} (y ∷ l) (x ∷ k) = cc in
+    (let u : y ≡ x = cc in u, let u : l ≡ k = cc in ap Some u)
 
 front_first : (s : List ℕ) (at : ℕ) (y : Lex) (e : ℕ) (x : Lex) (k : List Lex) → Front s at y e
-    → lexemes (drop at s) ≡ some (x ∷ k) → First s at (lexeme_of y) e x k
+    → lexemes (drop at s) ≡ Some (x ∷ k) → First s at (lexeme_of y) e x k
 front_first s at y e x k f h =
     let z = onto_first y x (lexemes (drop e s)) k (sym f.front ∙ h) in
     record { same = ap lexeme_of z.0; rest = z.1; further = f.further }
 
 pub told_first : (s : List ℕ) (at : ℕ) (l : Lexeme) (e : ℕ) (x : Lex) (k : List Lex)
-    → LexemeTells s at l e → lexemes (drop at s) ≡ some (x ∷ k) → First s at l e x k
+    → LexemeTells s at l e → lexemes (drop at s) ≡ Some (x ∷ k) → First s at l e x k
 told_first s at (Lexeme.Nonterminal a) e x k f h = front_first s at (n a) e x k f h
 told_first s at (Lexeme.Terminal a) e x k f h = front_first s at (t a) e x k f h
 told_first s at Lexeme.Open e x k f h = front_first s at opening e x k f h
@@ -391,23 +330,23 @@ told_first s at (Lexeme.Star m) e x k f h =
 told_first s at (Lexeme.Marked m) e x k f h = front_first s at (suffix (marks m)) e x k f h
 told_first s at (Lexeme.Join m) e x k f h = front_first s at (join m) e x k f h
 told_first s at Lexeme.End e x k f h =
-    absurd (let z : ◌≡◌ {A = Option (List Lex)} (some []) (some (x ∷ k)) = sym f.front ∙ h in
+    absurd (let z : ◌≡◌ {A = Option (List Lex)} (Some []) (Some (x ∷ k)) = sym f.front ∙ h in
     clash cc)
 told_first s at Lexeme.Not e x k f h =
-    absurd (let z : ◌≡◌ {A = Option (List Lex)} none (some (x ∷ k)) = sym f.front ∙ h in
+    absurd (let z : ◌≡◌ {A = Option (List Lex)} None (Some (x ∷ k)) = sym f.front ∙ h in
     clash cc)
 
 front_end : {P : Type 0} (s : List ℕ) (at : ℕ) (y : Lex) (e : ℕ) → Front s at y e
-    → lexemes (drop at s) ≡ some [] → P
+    → lexemes (drop at s) ≡ Some [] → P
 front_end {P} s at y e f h = go (lexemes (drop e s)) (sym f.front ∙ h)
   where
-    go : (q : Option (List Lex)) → onto_lexemes y q ≡ some [] → P
-    go none z = absurd (clash cc)
-    go (some l) z = absurd (clash cc)
+    go : (q : Option (List Lex)) → onto_lexemes y q ≡ Some [] → P
+    go None z = absurd (clash cc)
+    go (Some l) z = absurd (clash cc)
 
 -- where no lexeme is left, the end is told
 pub told_end : (s : List ℕ) (at : ℕ) (l : Lexeme) (e : ℕ) → LexemeTells s at l e
-    → lexemes (drop at s) ≡ some [] → l ≡ Lexeme.End
+    → lexemes (drop at s) ≡ Some [] → l ≡ Lexeme.End
 told_end s at (Lexeme.Nonterminal a) e f h = front_end s at (n a) e f h
 told_end s at (Lexeme.Terminal a) e f h = front_end s at (t a) e f h
 told_end s at Lexeme.Open e f h = front_end s at opening e f h
@@ -420,4 +359,4 @@ told_end s at (Lexeme.Marked m) e f h = front_end s at (suffix (marks m)) e f h
 told_end s at (Lexeme.Join m) e f h = front_end s at (join m) e f h
 told_end s at Lexeme.End e f h = refl
 told_end s at Lexeme.Not e f h =
-    absurd (let z : ◌≡◌ {A = Option (List Lex)} none (some []) = sym f.front ∙ h in clash cc)
+    absurd (let z : ◌≡◌ {A = Option (List Lex)} None (Some []) = sym f.front ∙ h in clash cc)

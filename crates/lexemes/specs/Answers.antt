@@ -1,12 +1,11 @@
 -- What the reader of a lexeme answers.
 use Rattle.std.specs.Prelude.{◌≡◌, ℕ, ◌+◌, ◌≤◌, ◌<◌, List, [], cond, length, drop, get_or}
-use Rattle.std.proofs.Math.Option.{Option, none, some}
+use Rattle.std.specs.Prelude.{Option, None, Some}
 use Rattle.clauses.specs.Clauses as C
 use Rattle.clauses.specs.Text.{maybe, repeats, marks, Lex, n, t, opening, closing, bar, suffix}
 use Rattle.clauses.specs.Text.{join}
 use Rattle.lexemes.specs.declared.Lexeme.{Lexeme}
 use Rattle.lexemes.specs.declared.Lexed.{Lexed}
-use Rattle.lexemes.specs.declared.Counted.{Counted}
 use Rattle.lexemes.specs.Lexemes.{LexFound, starts, ranged, numbered, Sign, sign, signs}
 use Rattle.lexemes.specs.Lexemes.{lexemes, onto_lexemes}
 
@@ -25,8 +24,13 @@ lexeme_of (join m) = Lexeme.Join m
 
 -- what stands at a place, and the place behind it
 abbrev pub as_lexed : ℕ → LexFound → Lexed
-as_lexed at (some y) = record { lexeme = lexeme_of y.0; end = at + y.1 }
-as_lexed at none = record { lexeme = Lexeme.Not; end = at }
+as_lexed at (Some y) = record { lexeme = lexeme_of y.0; end = at + y.1 }
+as_lexed at None = record { lexeme = Lexeme.Not; end = at }
+
+-- a lexeme that stands at a place, and the place behind it, if one does
+abbrev pub lexed_at : ℕ → LexFound → Option Lexed
+lexed_at at (Some y) = Some (record { lexeme = lexeme_of y.0; end = at + y.1 })
+lexed_at at None = None
 
 -- the sign with the number i
 abbrev pub sign_at_of : ℕ → Sign
@@ -36,18 +40,17 @@ sign_at_of i = get_or signs i (sign [] opening)
 abbrev pub standing : List ℕ → List ℕ → ℕ
 standing p s = cond (starts p s) (length p) 0
 
--- a number 0 to 63, or 64 where there is none
-pub record Numbers (o : Option ℕ) (r : ℕ) : Type 0 where
-  pub is : r < 64 → o ≡ some r
-  pub isnt : 64 ≤ r → (f : ℕ → Lex) (k : ℕ) → ranged f k o ≡ none
+-- a number 0 to 63
+abbrev pub Numbers : Option ℕ → Option ℕ → Type 0
+Numbers o (Some v) = (v ≤ 63) × (o ≡ Some v)
+Numbers o None = (f : ℕ → Lex) (k : ℕ) → ranged f k o ≡ None
 
--- the number behind the letter at a place
-pub record NumberAt (s : List ℕ) (at : ℕ) (r : Counted) : Type 0 where
-  pub is : r.value < 64 → (f : ℕ → Lex)
-      → as_lexed at (numbered f (drop 1 (drop at s))) ≡ record
-      { lexeme = lexeme_of (f r.value); end = r.end }
-  pub isnt : 64 ≤ r.value → (f : ℕ → Lex)
-      → as_lexed at (numbered f (drop 1 (drop at s))) ≡ record { lexeme = Lexeme.Not; end = at }
+-- the number behind the letter at a place, and where it ends
+abbrev pub NumberAt : List ℕ → ℕ → Option (ℕ × ℕ) → Type 0
+NumberAt s at (Some x) = (f : ℕ → Lex)
+    → lexed_at at (numbered f (drop 1 (drop at s)))
+    ≡ Some (record { lexeme = lexeme_of (f x.0); end = x.1 })
+NumberAt s at None = (f : ℕ → Lex) → lexed_at at (numbered f (drop 1 (drop at s))) ≡ None
 
 -- the lexeme x stands at a place and ends at e
 pub record Front (s : List ℕ) (at : ℕ) (x : Lex) (e : ℕ) : Type 0 where
@@ -57,10 +60,10 @@ pub record Front (s : List ℕ) (at : ℕ) (x : Lex) (e : ℕ) : Type 0 where
 
 -- no byte is left; or no lexeme stands there
 pub record NoBytesLeft (s : List ℕ) (at : ℕ) : Type 0 where
-  pub front : lexemes (drop at s) ≡ some []
+  pub front : lexemes (drop at s) ≡ Some []
 
 pub record Bad (s : List ℕ) (at : ℕ) : Type 0 where
-  pub front : lexemes (drop at s) ≡ none
+  pub front : lexemes (drop at s) ≡ None
 
 -- what a lexeme and its end tell of the bytes from a place on
 abbrev pub LexemeTells : List ℕ → ℕ → Lexeme → ℕ → Type 0

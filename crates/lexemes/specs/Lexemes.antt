@@ -2,7 +2,7 @@
 -- after them, and what stands between them.
 use Rattle.std.specs.Prelude.{ℕ, zero, suc, ◌+◌, ◌-◌, List, [], ◌∷◌, Bool, true, false, cond, ◌&&◌}
 use Rattle.std.specs.Prelude.{length, drop, leb, eqb}
-use Rattle.std.proofs.Math.Option.{Option, none, some}
+use Rattle.std.specs.Prelude.{Option, None, Some}
 use Rattle.grammar.specs.declared.UnaryMark.TheVariants as UnaryMark
 use Rattle.grammar.specs.declared.BinaryMark.TheVariants as BinaryMark
 use Rattle.fields.specs.Words.{is_digit, numeral_of}
@@ -27,8 +27,8 @@ front_digits (b ∷ s) = cond (is_digit b) (b ∷ front_digits s) []
 
 -- a number 0 to 63
 abbrev pub ranged : (ℕ → Lex) → ℕ → Option ℕ → LexFound
-ranged f k (some v) = cond (leb v 63) (some (f v, k)) none
-ranged f k none = none
+ranged f k (Some v) = cond (leb v 63) (Some (f v, k)) None
+ranged f k None = None
 
 -- a number as in rule sheets, behind a letter
 abbrev pub numbered : (ℕ → Lex) → List ℕ → LexFound
@@ -37,7 +37,7 @@ numbered f s = ranged f (1 + length (front_digits s)) (numeral_of (front_digits 
 -- n4 t2
 abbrev pub items : List ℕ → LexFound
 items s = cond (starts (110 ∷ []) s) (numbered n (drop 1 s))
-    (cond (starts (116 ∷ []) s) (numbered t (drop 1 s)) none)
+    (cond (starts (116 ∷ []) s) (numbered t (drop 1 s)) None)
 
 -- a sign: its bytes, and the lexeme that it is
 pub record Sign : Type 0 where
@@ -76,24 +76,24 @@ signs =
 -- the first of the signs that stands at the front of s, or an item
 abbrev pub first_sign : List Sign → List ℕ → LexFound
 first_sign [] s = items s
-first_sign (x ∷ l) s = cond (starts x.bytes s) (some (x.lex, length x.bytes)) (first_sign l s)
+first_sign (x ∷ l) s = cond (starts x.bytes s) (Some (x.lex, length x.bytes)) (first_sign l s)
 
 abbrev pub lexeme : List ℕ → LexFound
 lexeme s = first_sign signs s
 
 -- one lexeme more in front, where the rest are lexemes
 abbrev pub onto_lexemes : Lex → Option (List Lex) → Option (List Lex)
-onto_lexemes x (some l) = some (x ∷ l)
-onto_lexemes x none = none
+onto_lexemes x (Some l) = Some (x ∷ l)
+onto_lexemes x None = None
 
 -- what is found, and what k says of the lexemes behind it, given how many more bytes it has
 abbrev pub then : LexFound → (ℕ → Option (List Lex)) → Option (List Lex)
-then (some y) k = onto_lexemes y.0 (k (y.1 - 1))
-then none k = none
+then (Some y) k = onto_lexemes y.0 (k (y.1 - 1))
+then None k = None
 
 -- the lexemes of s after its first k bytes, which belong to the lexeme before
 abbrev pub from : List ℕ → ℕ → Option (List Lex)
-from [] k = some []
+from [] k = Some []
 from (b ∷ s) zero = then (lexeme (b ∷ s)) (λ k. from s k)
 from (b ∷ s) (suc k) = from s k
 

@@ -4,10 +4,9 @@
 ghost use Rattle.std.specs.Prelude.{◌≡◌, ◌+◌, ◌≤◌, ◌<◌, length, drop};
 ghost use Rattle.lexemes.specs.Lexemes.{starts, front_digits, items, lexeme as found};
 ghost use Rattle.fields.specs.Words.{numeral_of};
-ghost use Rattle.lexemes.specs.Answers.{lexeme_of, as_lexed, sign_at_of, standing, Numbers};
+ghost use Rattle.lexemes.specs.Answers.{lexeme_of, lexed_at, sign_at_of, standing, Numbers};
 ghost use Rattle.lexemes.specs.Answers.{NumberAt, Lexes};
 
-use fields::Number;
 use grammar::{BinaryMark, UnaryMark};
 
 // n4, t2, (, ), a bar between blanks, ?, + and +:align, * and *:align, :offside and the like, a
@@ -35,29 +34,12 @@ pub struct Lexed {
     pub end: usize,
 }
 
-// A number, 64 for none, and the place behind it.
-#[derive(Clone, Copy)]
-pub struct Counted {
-    pub value: u8,
-    pub end: usize,
-}
-
 // Do the bytes p stand at a place?
 fn starts_with(s: &[u8], at: usize, p: &[u8]) -> bool
     requires { at ≤ length s.now }
     ensures { result ≡ starts p.now (drop at s.now) }
 {
-    let mut i = 0;
-    while i < p.len() {
-        if s.len() <= at + i {
-            return false;
-        }
-        if p[i] != s[at + i] {
-            return false;
-        }
-        i += 1;
-    }
-    true
+    s[at..].starts_with(p)
 }
 
 // Where the digits from a place on end.
@@ -65,81 +47,55 @@ fn digits_end(s: &[u8], at: usize) -> usize
     requires { at ≤ length s.now }
     ensures { result ≡ at + length (front_digits (drop at s.now)) }
 {
-    let mut i = at;
-    while i < s.len() {
-        if s[i] < b'0' {
+    for i in at..s.len() {
+        if !s[i].is_ascii_digit() {
             return i;
         }
-        if b'9' < s[i] {
-            return i;
-        }
-        i += 1;
     }
-    i
+    s.len()
 }
 
-// A number 0 to 63 as in rule sheets, or 64 for no such number.
-#[tactic(auto, using(crate::proofs::Laws::number_low, crate::proofs::Laws::number_high))]
-fn number(f: &[u8]) -> u8
+// A number 0 to 63 as in rule sheets.
+fn number(f: &[u8]) -> Option<u8>
     ensures { Numbers (numeral_of f.now) result }
 {
     match fields::numeral(f) {
-        Number::Is(v) => {
-            if v <= 63 {
-                return v as u8;
-            }
-            64
-        }
-        Number::Not => 64,
+        Some(v) if v <= 63 => Some(v as u8),
+        _ => None,
     }
 }
 
 // The number behind the letter at a place, and where it ends.
-fn number_at(s: &[u8], at: usize) -> Counted
+fn number_at(s: &[u8], at: usize) -> Option<(u8, usize)>
     requires { at < length s.now }
     ensures { NumberAt s.now at result }
 {
     let from = at + 1;
     let e = digits_end(s, from);
-    let v = number(&s[from..e]);
-    Counted { value: v, end: e }
+    let v = number(&s[from..e])?;
+    Some((v, e))
 }
 
 // n4, t2.
-fn item_at(s: &[u8], at: usize) -> Lexed
+fn item_at(s: &[u8], at: usize) -> Option<Lexed>
     requires { at ≤ length s.now }
-    ensures { result ≡ as_lexed at (items (drop at s.now)) }
+    ensures { result ≡ lexed_at at (items (drop at s.now)) }
 {
     if starts_with(s, at, b"n") {
-        let c = number_at(s, at);
-        if c.value < 64 {
-            return Lexed {
-                lexeme: Lexeme::Nonterminal(c.value),
-                end: c.end,
-            };
-        }
-        return Lexed {
-            lexeme: Lexeme::Not,
-            end: at,
-        };
+        let (v, end) = number_at(s, at)?;
+        return Some(Lexed {
+            lexeme: Lexeme::Nonterminal(v),
+            end,
+        });
     }
     if starts_with(s, at, b"t") {
-        let c = number_at(s, at);
-        if c.value < 64 {
-            return Lexed {
-                lexeme: Lexeme::Terminal(c.value),
-                end: c.end,
-            };
-        }
-        return Lexed {
-            lexeme: Lexeme::Not,
-            end: at,
-        };
+        let (v, end) = number_at(s, at)?;
+        return Some(Lexed {
+            lexeme: Lexeme::Terminal(v),
+            end,
+        });
     }
-    Lexed {
-        lexeme: Lexeme::Not,
-        end: at,
-    }
+    None
 }
 
 // The bytes of the sign p, 0 if it does not stand at a place.
@@ -200,20 +156,18 @@ fn sign(i: usize) -> Lexeme
 }
 
 // The first of the signs that stands at a place, or an item.
-fn sign_at(s: &[u8], at: usize) -> Lexed
+fn sign_at(s: &[u8], at: usize) -> Option<Lexed>
     requires { at ≤ length s.now }
-    ensures { result ≡ as_lexed at (found (drop at s.now)) }
+    ensures { result ≡ lexed_at at (found (drop at s.now)) }
 {
-    let mut i = 0;
-    while i < 14 {
+    for i in 0..14 {
         let k = sign_stands(s, at, i);
         if 0 < k {
-            return Lexed {
+            return Some(Lexed {
                 lexeme: sign(i),
                 end: at + k,
-            };
+            });
         }
-        i += 1;
     }
     item_at(s, at)
 }
@@ -229,5 +183,8 @@ pub fn lexeme_at(s: &[u8], at: usize) -> Lexed
             end: at,
         };
     }
-    sign_at(s, at)
+    sign_at(s, at).unwrap_or(Lexed {
+        lexeme: Lexeme::Not,
+        end: at,
+    })
 }

@@ -1,4 +1,3 @@
-pub mod Stages
 pub mod Small
 pub mod Turning
 pub mod KeyLaws

@@ -2,7 +2,7 @@
 -- end.
 use Rattle.std.specs.Prelude.{◌≡◌, true, false, List, [], ◌++◌, ℕ, ◌+◌, ◌≤◌, ◌<◌, length, take}
 use Rattle.lists.specs.declared.Listing.{Listing}
-use Rattle.lists.specs.declared.Listed.{Listed}
+use Rattle.std.specs.Prelude.{Option, Some, None}
 use Rattle.lists.specs.Lists.{GivesList}
 
 -- the bytes of n entries were put at the front of the lent ones; or they do not fit
@@ -26,13 +26,13 @@ pub record PutMore (more : List ℕ) (n : ℕ) (old new : List ℕ) (l r : Listi
       → Puts (bytes ++ more) (m + n) lent new r
 
 -- a list's answer while it is not a call's
-abbrev pub listed : ℕ → Listed
-listed n = record { fits = true; count = n }
+abbrev pub listed : ℕ → Option ℕ
+listed n = Some n
 
-abbrev pub unfit : Listed
-unfit = record { fits = false; count = 0 }
+abbrev pub unfit : Option ℕ
+unfit = None
 
 -- all was put
-pub record AllPut (old new : List ℕ) (l : Listing) (r : Listed) : Type 0 where
+pub record AllPut (old new : List ℕ) (l : Listing) (r : Option ℕ) : Type 0 where
   pub gives : {bytes : List ℕ} {n : ℕ} {lent : List ℕ} → Puts bytes n lent old l
       → GivesList listed unfit bytes n lent new r

@@ -3,7 +3,7 @@
 use mathlib.Core.Path.{◌≡◌, refl, sym, ap, ◌∙◌}
 use mathlib.Core.List.{List, [], ◌∷◌, ◌++◌, append_assoc}
 use mathlib.Core.Bool.{Bool, true, false, not, cond, ◌&&◌}
-use mathlib.Core.Option.{some}
+use Rattle.std.specs.Prelude.{Some}
 use Prim.Native.Nat.{ℕ, zero, suc, ◌+◌, ◌≤◌, ◌<◌}
 use native.Mathlib.Omega.{arith}
 use lib.ListN.{length, get_or, set, take, drop}
@@ -16,7 +16,8 @@ use Rattle.grammar.specs.Trees.{Rules}
 use Rattle.fields.specs.declared.Lay.{Lay}
 use Rattle.fields.specs.Pieces.{pieces, is_empty, same_bytes}
 use Rattle.fields.specs.Words.{lay_of}
-use Rattle.lines.specs.declared.RuleLine.{RuleLine}
+use Rattle.std.specs.Prelude.{Result, Ok, Err}
+use Rattle.lines.specs.declared.RuleFault.{RuleFault}
 use Rattle.lines.specs.RuleLines.{rule_line_of, plain_rule}
 use Rattle.lines.specs.Keys.{key_of}
 use Rattle.sheets.specs.Items.{Reading, accepted, refused, items_from, with_names}
@@ -70,7 +71,7 @@ sheet_of s g e = go (pieces 10 s) refl e
 
 -- 2. a rule with another lay: its key and its left are kept
 
-pub rule_inj : (q r : Rule) → RuleLine.Good q ≡ RuleLine.Good r → q ≡ r
+pub rule_inj : (q r : Rule) → ◌≡◌ {A = Result Rule RuleFault} (Ok q) (Ok r) → q ≡ r
 rule_inj q r e = cc
 
 -- what is the same under any lay
@@ -78,14 +79,14 @@ pub record SameBut (r s : Rule) : Type 0 where
   pub left : r.left ≡ s.left
   pub key : key_of s ≡ key_of r
 
-by_good : (r q s : Rule) → RuleLine.Good q ≡ RuleLine.Good s → SameBut r q → SameBut r s
+by_good : (r q s : Rule) → ◌≡◌ {A = Result Rule RuleFault} (Ok q) (Ok s) → SameBut r q → SameBut r s
 by_good r q s e x = rw (← rule_inj q s e) x
 
-pub unfit_not : (s : Rule) → RuleLine.Unfit ≡ RuleLine.Good s → ⊥
+pub unfit_not : (s : Rule) → (Err RuleFault.Unfit) ≡ Ok s → ⊥
 unfit_not s e = clash cc
 
 module _ (l : ℕ) (s : Rule) where
-  plain_but : (c : Clause) (y : Lay) → plain_rule l c y ≡ RuleLine.Good s
+  plain_but : (c : Clause) (y : Lay) → plain_rule l c y ≡ Ok s
       → SameBut (record { left = l; clause = c }) s
   plain_but c Lay.None e = by_good _ _ s e (record { left = refl; key = refl })
   plain_but c Lay.Offside e = absurd (unfit_not s e)
@@ -94,7 +95,7 @@ module _ (l : ℕ) (s : Rule) where
   plain_but c Lay.Align e = absurd (unfit_not s e)
   plain_but c Lay.Indent e = absurd (unfit_not s e)
 
-  pub relaid_but : (c : Clause) (y : Lay) → relaid l c y ≡ RuleLine.Good s
+  pub relaid_but : (c : Clause) (y : Lay) → relaid l c y ≡ Ok s
       → SameBut (record { left = l; clause = c }) s
   relaid_but Clause.Empty y e = plain_but Clause.Empty y e
   relaid_but (Clause.Atom a b) y e = plain_but (Clause.Atom a b) y e
@@ -114,13 +115,13 @@ module _ (l : ℕ) (s : Rule) where
   relaid_but (Clause.Binary a b m) Lay.Indent e =
       by_good _ _ s e (record { left = refl; key = refl })
 
-line_kept : (r : Rule) (x : RuleLine) → ((s : Rule) → x ≡ RuleLine.Good s → SameBut r s)
+line_kept : (r : Rule) (x : Result Rule RuleFault) → ((s : Rule) → x ≡ Ok s → SameBut r s)
     → KeyKept x r
-line_kept r RuleLine.Form f = tt
-line_kept r RuleLine.Range f = tt
-line_kept r RuleLine.Unfit f = tt
-line_kept r RuleLine.Reversed f = tt
-line_kept r (RuleLine.Good s) f = (f s refl).key
+line_kept r (Err RuleFault.Form) f = tt
+line_kept r (Err RuleFault.Range) f = tt
+line_kept r (Err RuleFault.Unfit) f = tt
+line_kept r (Err RuleFault.Reversed) f = tt
+line_kept r (Ok s) f = (f s refl).key
 
 -- 3. the changed bytes as lines
 
@@ -143,7 +144,7 @@ module _ (s : List ℕ) (p : ℕ) (lay : List ℕ) (here : p < length (pieces 10
       (ap (take (piece_start (pieces 32 line) 4)) a.at
       ∙ take-append-le (piece_start (pieces 32 line) 4) line a.rest f.within)
 
-  pub changed_lines : (y : Lay) → lay_of lay ≡ some y
+  pub changed_lines : (y : Lay) → lay_of lay ≡ Some y
       → pieces 10 (changed s p lay) ≡ set (pieces 10 s) p new_line
   changed_lines y w =
       let a = piece_at 10 p s here in
@@ -165,14 +166,15 @@ any_one : (p : Rule → Bool) (front back : Rules) (r s : Rule) → p r ≡ p s
 any_one p [] back r s e = rw e
 any_one p (q ∷ front) back r s e = rw (any_one p front back r s e)
 
-finish_one : (front back : Rules) (r : Rule) → GoodRules (front ++ r ∷ back) → (x : RuleLine)
-    → ((s : Rule) → x ≡ RuleLine.Good s → SameBut r s)
+finish_one : (front back : Rules) (r : Rule) → GoodRules (front ++ r ∷ back)
+    → (x : Result Rule RuleFault)
+    → ((s : Rule) → x ≡ Ok s → SameBut r s)
     → finish (outcome front back x) ≡ outcome front back x
-finish_one front back r g RuleLine.Form f = refl
-finish_one front back r g RuleLine.Range f = refl
-finish_one front back r g RuleLine.Unfit f = refl
-finish_one front back r g RuleLine.Reversed f = refl
-finish_one front back r g (RuleLine.Good s) f =
+finish_one front back r g (Err RuleFault.Form) f = refl
+finish_one front back r g (Err RuleFault.Range) f = refl
+finish_one front back r g (Err RuleFault.Unfit) f = refl
+finish_one front back r g (Err RuleFault.Reversed) f = refl
+finish_one front back r g (Ok s) f =
     let b = f s refl in
     finish_good (front ++ s ∷ back)
     (any_one is_start front back s r
@@ -189,9 +191,9 @@ pub record ChangedAt (s : List ℕ) (g : Rules) (p : ℕ) : Type 0 where
   pub whole : g ≡ front ++ rule ∷ back
   pub place : length front + 1 ≡ p
   pub here : p < length (pieces 10 s)
-  pub says : rule_line_of (line_of s p) ≡ RuleLine.Good rule
+  pub says : rule_line_of (line_of s p) ≡ Ok rule
   pub five : 4 < length (pieces 32 (line_of s p))
-  pub reads : (lay : List ℕ) (y : Lay) → lay_of lay ≡ some y
+  pub reads : (lay : List ℕ) (y : Lay) → lay_of lay ≡ Some y
       → rule_sheet (changed s p lay) ≡ outcome front back (relaid rule.left rule.clause y)
 
 module _ (s : List ℕ) (g : Rules) (accepts : rule_sheet s ≡ accepted g) (i : ℕ)
@@ -205,7 +207,7 @@ module _ (s : List ℕ) (g : Rules) (accepts : rule_sheet s ≡ accepted g) (i :
   line_is : line_of s (suc i) ≡ get_or sheet.lines i []
   line_is = ap (λ (x : List (List ℕ)). get_or x (suc i) []) sheet.are
 
-  said : rule_line_of (line_of s (suc i)) ≡ RuleLine.Good at.rule
+  said : rule_line_of (line_of s (suc i)) ≡ Ok at.rule
   said = ap rule_line_of line_is ∙ at.says
 
   is_here : suc i < length (pieces 10 s)
@@ -217,14 +219,14 @@ module _ (s : List ℕ) (g : Rules) (accepts : rule_sheet s ≡ accepted g) (i :
   good : GoodRules (at.front ++ at.rule ∷ at.back)
   good = rw at.whole at (rules_good s g accepts)
 
-  module _ (lay : List ℕ) (y : Lay) (word : lay_of lay ≡ some y) where
+  module _ (lay : List ℕ) (y : Lay) (word : lay_of lay ≡ Some y) where
     abbrev new : List ℕ
     new = take (piece_start (pieces 32 (line_of s (suc i))) 4) (line_of s (suc i)) ++ lay
 
-    abbrev x : RuleLine
+    abbrev x : Result Rule RuleFault
     x = relaid at.rule.left at.rule.clause y
 
-    same : (q : Rule) → x ≡ RuleLine.Good q → SameBut at.rule q
+    same : (q : Rule) → x ≡ Ok q → SameBut at.rule q
     same q e = relaid_but at.rule.left q at.rule.clause y e
 
     from_lines : rules_from (set sheet.lines i new) ≡ outcome at.front at.back x

@@ -11,7 +11,7 @@ use Rattle.fields.specs.declared.Cursor.{Cursor}
 use Rattle.fields.specs.Pieces.{pieces, before}
 use Rattle.fields.proofs.Pieces.{before_take, before_le}
 use Rattle.sheets.specs.RefusedLines.{piece_start}
-use Rattle.lists.specs.declared.Listed.{Listed}
+use Rattle.std.specs.Prelude.{Option}
 use Rattle.lists.specs.Lists.{GivesList}
 use Rattle.lists.specs.Putting.{listed, unfit}
 use Rattle.mark_change.specs.Changed.{line_of, lay_start, lay_end, changed}
@@ -86,7 +86,7 @@ tail_all : (s : List ℕ) (end : ℕ) → take (length s - end) (drop end s) ≡
 tail_all s end = take_all (length s - end) (drop end s) (omega (arith, length-drop end s))
 
 -- three parts put one after the other are one list, an entry a byte
-gives_three : {lent lent' : List ℕ} {r : Listed} (a b c : List ℕ)
+gives_three : {lent lent' : List ℕ} {r : Option ℕ} (a b c : List ℕ)
     → GivesList listed unfit ((a ++ b) ++ c) (length a + length b + length c) lent lent' r
     → GivesList listed unfit (a ++ (b ++ c)) (length (a ++ (b ++ c))) lent lent' r
 gives_three a b c g =
@@ -96,7 +96,7 @@ gives_three a b c g =
 
 -- the changed sheet: the bytes before the lay, the new lay, those behind it
 pub gives_changed : (s : List ℕ) (p : ℕ) (lay : List ℕ) {start end : ℕ} {lent lent' : List ℕ}
-    {r : Listed} → start ≡ lay_start s p → end ≡ lay_end s p
+    {r : Option ℕ} → start ≡ lay_start s p → end ≡ lay_end s p
     → GivesList listed unfit ((take start s ++ lay) ++ take (length s - end) (drop end s))
     (0 + length (take start s) + length lay + length (take (length s - end) (drop end s))) lent
     lent' r → GivesList listed unfit (changed s p lay) (length (changed s p lay)) lent lent'

@@ -11,7 +11,8 @@ use Rattle.sets.proofs.Basics.{clash}
 use Rattle.grammar.specs.declared.Rule.{Rule}
 use Rattle.grammar.specs.Trees.{Rules}
 use Rattle.fields.specs.Pieces.{is_empty}
-use Rattle.lines.specs.declared.RuleLine.{RuleLine}
+use Rattle.std.specs.Prelude.{Result, Ok, Err}
+use Rattle.lines.specs.declared.RuleFault.{RuleFault}
 use Rattle.lines.specs.declared.Turn.{Turn}
 use Rattle.lines.specs.Turns.{turn_of}
 use Rattle.lines.specs.RuleLines.{rule_line_of}
@@ -53,12 +54,13 @@ keys_snoc u v r s x e = record {
 }
 
 -- a line says the same after them
-said_same : (u v : Rules) → SameKeys u v → (x : RuleLine) → rule_said_of u x ≡ rule_said_of v x
-said_same u v k RuleLine.Form = refl
-said_same u v k RuleLine.Range = refl
-said_same u v k RuleLine.Unfit = refl
-said_same u v k RuleLine.Reversed = refl
-said_same u v k (RuleLine.Good r) = rw (k.keys (key_of r))
+said_same : (u v : Rules) → SameKeys u v → (x : Result Rule RuleFault)
+    → rule_said_of u x ≡ rule_said_of v x
+said_same u v k (Err RuleFault.Form) = refl
+said_same u v k (Err RuleFault.Range) = refl
+said_same u v k (Err RuleFault.Unfit) = refl
+said_same u v k (Err RuleFault.Reversed) = refl
+said_same u v k (Ok r) = rw (k.keys (key_of r))
 
 step_same : (u v : Rules) → SameKeys u v → (p : List ℕ) (b : Bool)
     → rule_step u p b ≡ rule_step v p b
@@ -118,7 +120,7 @@ step_said said Turn.Whole t e = e
 pub record GivesRule (seen : Rules) (p : List ℕ) (ended : Bool) (t : Rule) : Type 0 where
   pub ends : ended ≡ true
   pub few : length seen < 128
-  pub says : rule_line_of p ≡ RuleLine.Good t
+  pub says : rule_line_of p ≡ Ok t
   pub fresh : any_of (has_key (key_of t)) seen ≡ false
 
 next_inj : (r t : Rule) → next r ≡ next t → r ≡ t
@@ -131,41 +133,41 @@ gives seen p b t e =
     go n.1 n.0 (rule_line_of p) refl
     (step_said (rule_says seen p) (turn_of 128 (length seen) p b) t e)
   where
-    fresh_of : b ≡ true → length seen < 128 → (r : Rule) → rule_line_of p ≡ RuleLine.Good r
+    fresh_of : b ≡ true → length seen < 128 → (r : Rule) → rule_line_of p ≡ Ok r
         → (f : Bool)
         → any_of (has_key (key_of r)) seen ≡ f
         → cond f (stop 5) (next r) ≡ next t → GivesRule seen p b t
     fresh_of ends few r h true k e = absurd (clash cc)
     fresh_of ends few r h false k e = let j = next_inj r t e in
-        record { ends = ends; few = few; says = h ∙ ap RuleLine.Good j; fresh = rw j at k }
+        record { ends = ends; few = few; says = h ∙ ap Ok j; fresh = rw j at k }
 
-    go : b ≡ true → length seen < 128 → (x : RuleLine) → rule_line_of p ≡ x
+    go : b ≡ true → length seen < 128 → (x : Result Rule RuleFault) → rule_line_of p ≡ x
         → rule_said_of seen x ≡ next t
         → GivesRule seen p b t
-    go ends few RuleLine.Form h e = absurd (clash cc)
-    go ends few RuleLine.Range h e = absurd (clash cc)
-    go ends few RuleLine.Unfit h e = absurd (clash cc)
-    go ends few RuleLine.Reversed h e = absurd (clash cc)
-    go ends few (RuleLine.Good r) h e =
+    go ends few (Err RuleFault.Form) h e = absurd (clash cc)
+    go ends few (Err RuleFault.Range) h e = absurd (clash cc)
+    go ends few (Err RuleFault.Unfit) h e = absurd (clash cc)
+    go ends few (Err RuleFault.Reversed) h e = absurd (clash cc)
+    go ends few (Ok r) h e =
         fresh_of ends few r h (any_of (has_key (key_of r)) seen) refl e
 
 -- 3. one line changed
 
 -- the line says another rule of the same key, or is refused
-abbrev pub KeyKept : RuleLine → Rule → Type 0
-KeyKept (RuleLine.Good s) r = key_of s ≡ key_of r
-KeyKept RuleLine.Form r = Unit {0}
-KeyKept RuleLine.Range r = Unit {0}
-KeyKept RuleLine.Unfit r = Unit {0}
-KeyKept RuleLine.Reversed r = Unit {0}
+abbrev pub KeyKept : Result Rule RuleFault → Rule → Type 0
+KeyKept (Ok s) r = key_of s ≡ key_of r
+KeyKept (Err RuleFault.Form) r = Unit {0}
+KeyKept (Err RuleFault.Range) r = Unit {0}
+KeyKept (Err RuleFault.Unfit) r = Unit {0}
+KeyKept (Err RuleFault.Reversed) r = Unit {0}
 
 -- what the lines give then: the rules with that one in its place, or its refusal in its line
-abbrev pub outcome : Rules → Rules → RuleLine → Reading Rules
-outcome front back (RuleLine.Good s) = accepted (front ++ s ∷ back)
-outcome front back RuleLine.Form = refused 2 (length front + 2)
-outcome front back RuleLine.Range = refused 3 (length front + 2)
-outcome front back RuleLine.Unfit = refused 4 (length front + 2)
-outcome front back RuleLine.Reversed = refused 44 (length front + 2)
+abbrev pub outcome : Rules → Rules → Result Rule RuleFault → Reading Rules
+outcome front back (Ok s) = accepted (front ++ s ∷ back)
+outcome front back (Err RuleFault.Form) = refused 2 (length front + 2)
+outcome front back (Err RuleFault.Range) = refused 3 (length front + 2)
+outcome front back (Err RuleFault.Unfit) = refused 4 (length front + 2)
+outcome front back (Err RuleFault.Reversed) = refused 44 (length front + 2)
 
 -- the rule that line n gives, and what the lines give with another in its place
 pub record Changed (seen : Rules) (ps : List (List ℕ)) (n : ℕ) (w : Rules) : Type 0 where
@@ -175,8 +177,8 @@ pub record Changed (seen : Rules) (ps : List (List ℕ)) (n : ℕ) (w : Rules) :
   pub whole : w ≡ front ++ rule ∷ back
   pub place : length front ≡ length seen + n
   pub there : n < length ps
-  pub says : rule_line_of (get_or ps n []) ≡ RuleLine.Good rule
-  pub reads : (line : List ℕ) (x : RuleLine) → rule_line_of line ≡ x → KeyKept x rule
+  pub says : rule_line_of (get_or ps n []) ≡ Ok rule
+  pub reads : (line : List ℕ) (x : Result Rule RuleFault) → rule_line_of line ≡ x → KeyKept x rule
       → items_from rule_step seen (set ps n line) ≡ outcome front back x
 
 module _ (seen : Rules) (ps : List (List ℕ)) (t : Rule) (few : length seen < 128)
@@ -187,14 +189,14 @@ module _ (seen : Rules) (ps : List (List ℕ)) (t : Rule) (few : length seen < 1
   step_new : (line : List ℕ) → rule_step seen line true ≡ rule_said_of seen (rule_line_of line)
   step_new line = rw (lt-leb 128 (length seen) few)
 
-  said_new : (x : RuleLine) → KeyKept x t
+  said_new : (x : Result Rule RuleFault) → KeyKept x t
       → on_step seen (rule_said_of seen x) (λ r. items_from rule_step (seen ++ r ∷ []) ps)
       ≡ outcome seen tail x
-  said_new RuleLine.Form k = refl
-  said_new RuleLine.Range k = refl
-  said_new RuleLine.Unfit k = refl
-  said_new RuleLine.Reversed k = refl
-  said_new (RuleLine.Good s) k =
+  said_new (Err RuleFault.Form) k = refl
+  said_new (Err RuleFault.Range) k = refl
+  said_new (Err RuleFault.Unfit) k = refl
+  said_new (Err RuleFault.Reversed) k = refl
+  said_new (Ok s) k =
       let r = rest_same (seen ++ t ∷ []) (seen ++ s ∷ []) ps w
       (keys_snoc seen seen t s (keys_self seen) (sym k)) more in
       let j : r.tail ≡ tail =
@@ -203,7 +205,8 @@ module _ (seen : Rules) (ps : List (List ℕ)) (t : Rule) (few : length seen < 1
       ap (λ (y : Key). any_of (has_key y) seen) k ∙ fresh in
       rw f (r.reads ∙ rw j (ap accepted (append_assoc seen (s ∷ []) tail)))
 
-  here : (line : List ℕ) (x : RuleLine) → rule_line_of line ≡ x → KeyKept x t → (ended : Bool)
+  here : (line : List ℕ) (x : Result Rule RuleFault) → rule_line_of line ≡ x → KeyKept x t
+      → (ended : Bool)
       → ended ≡ true
       → on_step seen (rule_step seen line ended) (λ r. items_from rule_step (seen ++ r ∷ []) ps)
       ≡ outcome seen tail x

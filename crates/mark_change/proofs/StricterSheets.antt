@@ -2,7 +2,7 @@
 -- becomes two.
 use mathlib.Core.Path.{◌≡◌, refl, sym, ap, ◌∙◌}
 use mathlib.Core.List.{List, [], ◌∷◌, ◌++◌}
-use mathlib.Core.Option.{Option, some, none}
+use Rattle.std.specs.Prelude.{Option, Some, None}
 use mathlib.Core.Bool.{Bool, true, false, cond}
 use Prim.Native.Nat.{ℕ, ◌≤◌}
 use lib.ListN.{length, get_or}
@@ -18,8 +18,9 @@ use Rattle.fields.specs.declared.Kind.{Kind}
 use Rattle.fields.specs.declared.Lay.{Lay}
 use Rattle.fields.specs.Pieces.{pieces}
 use Rattle.fields.specs.Words.{lay_of}
-use Rattle.lines.specs.declared.RuleLine.{RuleLine}
-use Rattle.lines.specs.RuleLines.{lay_rule, up_to}
+use Rattle.std.specs.Prelude.{Result, Ok, Err}
+use Rattle.lines.specs.declared.RuleFault.{RuleFault}
+use Rattle.lines.specs.RuleLines.{lay_rule, from_of, up_to}
 use Rattle.sheets.specs.Items.{accepted}
 use Rattle.sheets.specs.RuleSheets.{rule_sheet}
 use Rattle.tree_view.specs.Stricter.{StricterClause, same, unary, binary, Stricter, none_left, more}
@@ -35,11 +36,12 @@ use Rattle.mark_change.specs.Relaid.{lay_field, relaid}
 
 module _ (l : ℕ) (q : Rule) where
   -- the clause with another lay
-  to : (c : Clause) (x : Rule) → RuleLine.Good x ≡ RuleLine.Good q → StricterClause c x.clause
+  to : (c : Clause) (x : Rule) → ◌≡◌ {A = Result Rule RuleFault} (Ok x) (Ok q)
+      → StricterClause c x.clause
       → StricterClause c q.clause
   to c x e s = rw (← rule_inj x q e) s
 
-  strict_empty : (y : Lay) → relaid l Clause.Empty y ≡ RuleLine.Good q
+  strict_empty : (y : Lay) → relaid l Clause.Empty y ≡ Ok q
       → StricterClause Clause.Empty q.clause
   strict_empty Lay.None e = to Clause.Empty _ e same
   strict_empty Lay.Offside e = absurd (unfit_not q e)
@@ -48,7 +50,7 @@ module _ (l : ℕ) (q : Rule) where
   strict_empty Lay.Align e = absurd (unfit_not q e)
   strict_empty Lay.Indent e = absurd (unfit_not q e)
 
-  strict_atom : (a b : ℕ) (y : Lay) → relaid l (Clause.Atom a b) y ≡ RuleLine.Good q
+  strict_atom : (a b : ℕ) (y : Lay) → relaid l (Clause.Atom a b) y ≡ Ok q
       → StricterClause (Clause.Atom a b) q.clause
   strict_atom a b Lay.None e = to (Clause.Atom a b) _ e same
   strict_atom a b Lay.Offside e = absurd (unfit_not q e)
@@ -57,7 +59,7 @@ module _ (l : ℕ) (q : Rule) where
   strict_atom a b Lay.Align e = absurd (unfit_not q e)
   strict_atom a b Lay.Indent e = absurd (unfit_not q e)
 
-  strict_unary : (a : ℕ) (y : Lay) → relaid l (Clause.Unary a UnaryMark.None) y ≡ RuleLine.Good q
+  strict_unary : (a : ℕ) (y : Lay) → relaid l (Clause.Unary a UnaryMark.None) y ≡ Ok q
       → StricterClause (Clause.Unary a UnaryMark.None) q.clause
   strict_unary a Lay.None e = to (Clause.Unary a UnaryMark.None) _ e same
   strict_unary a Lay.Offside e = to (Clause.Unary a UnaryMark.None) _ e (unary UnaryMark.Offside)
@@ -67,7 +69,7 @@ module _ (l : ℕ) (q : Rule) where
   strict_unary a Lay.Indent e = absurd (unfit_not q e)
 
   strict_binary : (a b : ℕ) (y : Lay)
-      → relaid l (Clause.Binary a b BinaryMark.None) y ≡ RuleLine.Good q
+      → relaid l (Clause.Binary a b BinaryMark.None) y ≡ Ok q
       → StricterClause (Clause.Binary a b BinaryMark.None) q.clause
   strict_binary a b Lay.None e = to (Clause.Binary a b BinaryMark.None) _ e same
   strict_binary a b Lay.Offside e = absurd (unfit_not q e)
@@ -80,14 +82,14 @@ module _ (l : ℕ) (q : Rule) where
 
 -- the rule r of a line whose lay is none, and what it is under another
 strict_rule : (l : ℕ) (k : Kind) (a b : ℕ) (r q : Rule) (y : Lay)
-    → lay_rule l k a b Lay.None ≡ RuleLine.Good r → relaid r.left r.clause y ≡ RuleLine.Good q
+    → lay_rule l k a b Lay.None ≡ Ok r → relaid r.left r.clause y ≡ Ok q
     → StricterClause r.clause q.clause
 strict_rule l Kind.E a b r q y e f = let j = rule_inj _ r e in
     rw (← j) (strict_empty l q y (rw (← j) at f))
 strict_rule l Kind.A a b r q y e f = go (leb a b) e
   where
-    go : (t : Bool) → cond t (RuleLine.Good (record { left = l; clause = Clause.Atom a b }))
-        RuleLine.Reversed ≡ RuleLine.Good r → StricterClause r.clause q.clause
+    go : (t : Bool) → cond t (Ok (record { left = l; clause = Clause.Atom a b }))
+        (Err RuleFault.Reversed) ≡ Ok r → StricterClause r.clause q.clause
     go true e = let j = rule_inj _ r e in rw (← j) (strict_atom l q a b y (rw (← j) at f))
     go false e = absurd (clash cc)
 strict_rule l Kind.U a b r q y e f = let j = rule_inj _ r e in
@@ -106,11 +108,11 @@ stricter_one : (front back : Rules) (r q : Rule) → r.left ≡ q.left
 stricter_one [] back r q e c = more e c (stricter_self back)
 stricter_one (x ∷ front) back r q e c = more refl same (stricter_one front back r q e c)
 
-some_inj : (y z : Lay) → some y ≡ some z → y ≡ z
+some_inj : (y z : Lay) → Some y ≡ Some z → y ≡ z
 some_inj y z e = cc
 
 module _ (s : List ℕ) (g : Rules) (p : ℕ) (c : ChangedAt s g p)
-    (was : lay_of (lay_field s p) ≡ some Lay.None) where
+    (was : lay_of (lay_field s p) ≡ Some Lay.None) where
   five : Five (pieces 32 (line_of s p)) c.rule
   five = five_of (pieces 32 (line_of s p)) c.rule c.says
 
@@ -119,34 +121,35 @@ module _ (s : List ℕ) (g : Rules) (p : ℕ) (c : ChangedAt s g p)
       let f : lay_field s p ≡ five.f₄ = ap (λ (x : List (List ℕ)). get_or x 4 []) five.are in
       some_inj five.lay Lay.None (sym five.lay_is ∙ ap lay_of (sym f) ∙ was)
 
-  ruled : lay_rule five.left five.kind five.first.value (up_to five.first five.second)
-      Lay.None ≡ RuleLine.Good c.rule
+  ruled : lay_rule five.left five.kind (from_of five.first) (up_to five.first five.second)
+      Lay.None ≡ Ok c.rule
   ruled = rw (← lay_none) (laid_of five.left five.kind five.first five.second
       five.lay c.rule five.rule)
 
-  by_line : (y : Lay) (x : RuleLine) → relaid c.rule.left c.rule.clause y ≡ x → (h : Rules)
+  by_line : (y : Lay) (x : Result Rule RuleFault) → relaid c.rule.left c.rule.clause y ≡ x
+      → (h : Rules)
       → outcome c.front c.back x ≡ accepted h → Stricter g h
-  by_line y RuleLine.Form i h e = absurd (clash cc)
-  by_line y RuleLine.Range i h e = absurd (clash cc)
-  by_line y RuleLine.Unfit i h e = absurd (clash cc)
-  by_line y RuleLine.Reversed i h e = absurd (clash cc)
-  by_line y (RuleLine.Good q) i h e =
+  by_line y (Err RuleFault.Form) i h e = absurd (clash cc)
+  by_line y (Err RuleFault.Range) i h e = absurd (clash cc)
+  by_line y (Err RuleFault.Unfit) i h e = absurd (clash cc)
+  by_line y (Err RuleFault.Reversed) i h e = absurd (clash cc)
+  by_line y (Ok q) i h e =
       let b = relaid_but c.rule.left q c.rule.clause y i in
       let j = accepted_inj (c.front ++ q ∷ c.back) h e in
       rw (c.whole, ← j) (stricter_one c.front c.back c.rule q b.left
-      (strict_rule five.left five.kind five.first.value
+      (strict_rule five.left five.kind (from_of five.first)
       (up_to five.first five.second) c.rule q y ruled i))
 
   by_lay : (lay : List ℕ) (o : Option Lay) → lay_of lay ≡ o → (h : Rules)
       → read_changed s p lay o ≡ accepted h → Stricter g h
-  by_lay lay (some y) w h e =
+  by_lay lay (Some y) w h e =
       by_line y (relaid c.rule.left c.rule.clause y) refl h (sym (c.reads lay y w) ∙ e)
-  by_lay lay none w h e = absurd (clash cc)
+  by_lay lay None w h e = absurd (clash cc)
 
 -- THE LEMMA: an accepted sheet, and the same sheet with other bytes in the place of a rule's
 -- `none`, accepted too
 module _ (s : List ℕ) (g : Rules) (e : rule_sheet s ≡ accepted g) (p : ℕ) (low : 1 ≤ p)
-    (high : p ≤ length g) (was : lay_of (lay_field s p) ≡ some Lay.None)
+    (high : p ≤ length g) (was : lay_of (lay_field s p) ≡ Some Lay.None)
     (lay : List ℕ) (h : Rules) (f : changed_sheet s p lay ≡ accepted h) where
   stricter : Stricter g h
   stricter = by_lay s g p (changed_at s g e p low high) was lay (lay_of lay) refl h f

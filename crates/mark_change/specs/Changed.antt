@@ -1,6 +1,6 @@
 -- A rule sheet with another mark in one of its rules: docs/FORMAT.md, "Closed nodes".
 use Rattle.std.specs.Prelude.{ℕ, ◌+◌, List, [], ◌++◌, length, get_or, take, drop}
-use Rattle.std.proofs.Math.Option.{Option, none, some}
+use Rattle.std.specs.Prelude.{Option, None, Some}
 use Rattle.fields.specs.declared.Lay.{Lay}
 use Rattle.fields.specs.Pieces.{pieces}
 use Rattle.fields.specs.Words.{lay_of}
@@ -28,8 +28,8 @@ changed s p lay = take (lay_start s p) s ++ (lay ++ drop (lay_end s p) s)
 -- what the changed sheet says: bytes that are no word of lay are refused 2 in that rule's line;
 -- else all checks are made afresh
 abbrev pub read_changed : List ℕ → ℕ → List ℕ → Option Lay → Reading Rules
-read_changed s p lay (some y) = rule_sheet (changed s p lay)
-read_changed s p lay none = refused 2 (p + 1)
+read_changed s p lay (Some y) = rule_sheet (changed s p lay)
+read_changed s p lay None = refused 2 (p + 1)
 
 abbrev pub changed_sheet : List ℕ → ℕ → List ℕ → Reading Rules
 changed_sheet s p lay = read_changed s p lay (lay_of lay)

@@ -4,7 +4,9 @@ use Rattle.fields.specs.Pieces.{pieces}
 use Rattle.mark_change.specs.Changed.{line_of}
 use Rattle.grammar.specs.declared.Clause.{Clause}
 use Rattle.fields.specs.declared.Lay.{Lay}
-use Rattle.lines.specs.declared.RuleLine.{RuleLine}
+use Rattle.std.specs.Prelude.{Result}
+use Rattle.lines.specs.declared.RuleFault.{RuleFault}
+use Rattle.grammar.specs.declared.Rule.{Rule}
 use Rattle.lines.specs.RuleLines.{plain_rule, unary_rule, binary_rule}
 
 -- the bytes of a rule's lay
@@ -34,7 +36,7 @@ fits_lay c Lay.Align = two_words c
 fits_lay c Lay.Indent = two_words c
 
 -- (for the laws) a rule with another lay, or 4
-abbrev pub relaid : ℕ → Clause → Lay → RuleLine
+abbrev pub relaid : ℕ → Clause → Lay → Result Rule RuleFault
 relaid l Clause.Empty y = plain_rule l Clause.Empty y
 relaid l (Clause.Atom a b) y = plain_rule l (Clause.Atom a b) y
 relaid l (Clause.Unary a m) y = unary_rule l a y

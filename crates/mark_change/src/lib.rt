@@ -12,7 +12,7 @@ ghost use Rattle.mark_change.specs.Relaid.{one_word, two_words, fits_lay};
 
 use fields::{Cursor, Lay};
 use grammar::Clause;
-use lists::{Listed, begin, finish, put};
+use lists::{begin, finish, put};
 
 // Where the lay of a rule begins and ends.
 #[derive(Clone, Copy)]
@@ -26,17 +26,16 @@ fn piece_start(s: &[u8], b: u8, n: usize) -> usize
     requires { n < length (pieces b s.now) }
     ensures { result ≡ piece_start (pieces b s.now) n }
 {
-    let mut at = 0;
     let mut left = n;
-    while 0 < left {
+    for at in 0..s.len() {
+        if left == 0 {
+            return at;
+        }
         if s[at] == b {
             left -= 1;
-            at += 1;
-            continue;
         }
-        at += 1;
     }
-    at
+    s.len()
 }
 
 // Where the lay of the rule at place p, counted from 1, begins and ends.
@@ -59,39 +58,27 @@ pub fn lay_fits(c: Clause, y: Lay) -> bool
 {
     match y {
         Lay::None => true,
-        Lay::Offside => is_unary(c),
-        Lay::Offalign => is_unary(c),
-        Lay::Single => is_unary(c),
-        Lay::Align => is_binary(c),
-        Lay::Indent => is_binary(c),
+        Lay::Offside | Lay::Offalign | Lay::Single => is_unary(c),
+        Lay::Align | Lay::Indent => is_binary(c),
     }
 }
 
-// Has the rule one word below it, or two?
+// Has the rule one word below it?
 fn is_unary(c: Clause) -> bool
     ensures { result ≡ one_word c }
 {
-    match c {
-        Clause::Empty => false,
-        Clause::Atom(_, _) => false,
-        Clause::Unary(_, _) => true,
-        Clause::Binary(_, _, _) => false,
-    }
+    matches!(c, Clause::Unary(_, _))
 }
 
+// Has it two?
 fn is_binary(c: Clause) -> bool
     ensures { result ≡ two_words c }
 {
-    match c {
-        Clause::Empty => false,
-        Clause::Atom(_, _) => false,
-        Clause::Unary(_, _) => false,
-        Clause::Binary(_, _, _) => true,
-    }
+    matches!(c, Clause::Binary(_, _, _))
 }
 
 // The changed sheet as a list of its bytes: those before the lay, the new lay, and those behind it.
-pub fn put_changed(s: &[u8], p: usize, lay: &[u8], out: &mut [u8]) -> Listed
+pub fn put_changed(s: &[u8], p: usize, lay: &[u8], out: &mut [u8]) -> Option<usize>
     requires { (p < length (pieces 10 s.now)) × (4 < length (pieces 32 (line_of s.now p))) }
     ensures { GivesList listed unfit (changed s.now p lay.now)
         (length (changed s.now p lay.now)) out.old

@@ -7,13 +7,14 @@ use native.Mathlib.Nat.{lt_irrefl}
 use native.Mathlib.Omega.{arith}
 use native.Mathlib.Decide.{dec_lt, dec_le, ℕ_discrete}
 use Rattle.grammar.specs.declared.UnaryMark.{UnaryMark}
+use Rattle.grammar.specs.declared.Column.{Column}
 use Rattle.grammar.specs.Layout.{line, col}
-use Rattle.marks.specs.declared.Least.{Least}
+use Rattle.std.specs.Prelude.{Option, Some, None}
 use Rattle.marks.specs.Half.{Half, token_at, MayKeep}
 use Rattle.marks.specs.Later.{Later, LeastLater, lesser, Grows, OffsideBy, OffalignBy}
 
 -- one token has none on a later line
-pub least_first : (h : Half) (s : ℕ) → LeastLater h s 1 Least.None
+pub least_first : (h : Half) (s : ℕ) → LeastLater h s 1 None
 least_first h s i q =
     let e : s + i ≡ s = omega (arith, q.inside) in
     lt_irrefl (line (token_at h.word s))
@@ -32,25 +33,25 @@ module _ (h : Half) (s l : ℕ) where
       inner (no z) = absurd (n (omega (arith, q.inside, z)))
 
   -- a token that does not count leaves the value
-  pub least_same : (v : Least) → (Later h s (l + 1) l → ⊥) → LeastLater h s l v
+  pub least_same : (v : Option Column) → (Later h s (l + 1) l → ⊥) → LeastLater h s l v
       → LeastLater h s (l + 1) v
-  least_same Least.None n f = λ i q. f i (less i (λ e. n (subst (Later h s (l + 1)) e q)) q)
-  least_same (Least.At c) n f = (
+  least_same None n f = λ i q. f i (less i (λ e. n (subst (Later h s (l + 1)) e q)) q)
+  least_same (Some c) n f = (
     (f.0.0, wide f.0.0 f.0.1, f.0.2),
     λ i q. f.1 i (less i (λ e. n (subst (Later h s (l + 1)) e q)) q),
   )
 
   -- one that counts is compared with it
-  least_new : (v : Least) → Later h s (l + 1) l → LeastLater h s l v
+  least_new : (v : Option Column) → Later h s (l + 1) l → LeastLater h s l v
       → LeastLater h s (l + 1) (lesser v (token_at h.word (s + l)).column)
-  least_new Least.None p f = ((l, p, refl), λ i q. go i q (ℕ_discrete i l))
+  least_new None p f = ((l, p, refl), λ i q. go i q (ℕ_discrete i l))
     where
       go : (i : ℕ) → Later h s (l + 1) i → Dec (i ≡ l)
           → col (token_at h.word (s + l)) ≤ col (token_at h.word (s + i))
       go i q (yes e) = subst (λ (x : ℕ). col (token_at h.word (s + l))
           ≤ col (token_at h.word (s + x))) (sym e) (omega arith)
       go i q (no n) = absurd (f i (less i n q))
-  least_new (Least.At c) p f =
+  least_new (Some c) p f =
       (some (dec_le c.0 (col (token_at h.word (s + l)))), λ i q. go i q (ℕ_discrete i l))
     where
       some : Dec (c.0 ≤ col (token_at h.word (s + l)))
@@ -71,7 +72,7 @@ module _ (h : Half) (s l : ℕ) where
       go i q (no n) = omega (arith, f.1 i (less i n q))
 
   -- growing by a known token keeps the value right
-  pub least_more : (v r : Least) → s + l < h.known → LeastLater h s l v
+  pub least_more : (v r : Option Column) → s + l < h.known → LeastLater h s l v
       → Grows v (token_at h.word s) (token_at h.word (s + l)) r → LeastLater h s (l + 1) r
   least_more v r k f g = go (dec_lt (line (token_at h.word s)) (line (token_at h.word (s + l))))
     where
@@ -83,27 +84,28 @@ module _ (h : Half) (s l : ℕ) where
           (least_same v (λ p. z p.below) f)
 
   -- an open token adds nothing
-  pub least_open : (v : Least) → h.known ≤ s + l → LeastLater h s l v → LeastLater h s (l + 1) v
+  pub least_open : (v : Option Column) → h.known ≤ s + l → LeastLater h s l v
+      → LeastLater h s (l + 1) v
   least_open v k f = least_same v (λ p. omega (arith, p.known, k)) f
 
 -- the span settles the value
-pub least_settled : (h : Half) (s len : ℕ) (v u : Least) → LeastLater h s len v
+pub least_settled : (h : Half) (s len : ℕ) (v u : Option Column) → LeastLater h s len v
     → LeastLater h s len u → v ≡ u
-least_settled h s len Least.None Least.None f g = refl
-least_settled h s len Least.None (Least.At d) f g = absurd (f g.0.0 g.0.1)
-least_settled h s len (Least.At c) Least.None f g = absurd (g f.0.0 f.0.1)
-least_settled h s len (Least.At c) (Least.At d) f g =
-    ap (λ (x : ℕ). Least.At (record { 0 = x })) (let e : c.0 ≡ d.0 = omega
+least_settled h s len None None f g = refl
+least_settled h s len None (Some d) f g = absurd (f g.0.0 g.0.1)
+least_settled h s len (Some c) None f g = absurd (g f.0.0 f.0.1)
+least_settled h s len (Some c) (Some d) f g =
+    ap (λ (x : ℕ). Some (record { 0 = x })) (let e : c.0 ≡ d.0 = omega
     (arith, f.0.2, g.0.2, f.1 g.0.0 g.0.1, g.1 f.0.0 f.0.1) in e)
 
 -- both marks by it
-pub offside_by : (h : Half) (s len : ℕ) (v : Least) → LeastLater h s len v
+pub offside_by : (h : Half) (s len : ℕ) (v : Option Column) → LeastLater h s len v
     → OffsideBy (token_at h.word s).column v ↔ MayKeep UnaryMark.Offside h s len
-offside_by h s len Least.None f = (
+offside_by h s len None f = (
   λ t. record { keeps = λ i l k b. absurd (f i (record { inside = l; known = k; below = b })) },
   λ q. tt,
 )
-offside_by h s len (Least.At c) f = (
+offside_by h s len (Some c) f = (
   λ t. record {
     keeps = λ i l k b. omega
         (arith, t, f.1 i (record { inside = l; known = k; below = b }));
@@ -116,13 +118,13 @@ offside_by h s len (Least.At c) f = (
   ),
 )
 
-pub offalign_by : (h : Half) (s len : ℕ) (v : Least) → LeastLater h s len v
+pub offalign_by : (h : Half) (s len : ℕ) (v : Option Column) → LeastLater h s len v
     → OffalignBy (token_at h.word s).column v ↔ MayKeep UnaryMark.Offalign h s len
-offalign_by h s len Least.None f = (
+offalign_by h s len None f = (
   λ t. record { keeps = λ i l k b. absurd (f i (record { inside = l; known = k; below = b })) },
   λ q. tt,
 )
-offalign_by h s len (Least.At c) f = (
+offalign_by h s len (Some c) f = (
   λ t. record {
     keeps = λ i l k b. omega
         (arith, t, f.1 i (record { inside = l; known = k; below = b }));

@@ -9,11 +9,11 @@ use Rattle.marks.specs.Half.{token_at}
 use Rattle.marks.specs.Drafts.{drafted}
 use Rattle.grammar.specs.Sentences.{no_token}
 
-pub drafted_at : (d : Draft) (i : ℕ) → i < d.count
+pub drafted_at : {N : ℕ} (d : Draft N) (i : ℕ) → i < d.count
     → token_at (drafted d) i ≡ get_or d.tokens i no_token
 drafted_at d i h = get_or-take d.count d.tokens i no_token h
 
 -- a draft is as long as its count says
-pub drafted_length : (d : Draft) → length d.tokens ≡ 64 → d.count ≤ 64
+pub drafted_length : {N : ℕ} (d : Draft N) → length d.tokens ≡ N → d.count ≤ N
     → length (drafted d) ≡ d.count
 drafted_length d e h = length-take-le d.count d.tokens (omega arith)

@@ -142,7 +142,7 @@ grown {k} {r} {l} {at} {known} {a} {z} {t} j = record {
 }
 
 -- three tokens of a draft are
-pub next_carried : (d : Draft) (s l : ℕ) (k r : SpanMarks) → 0 < l → s + l < d.count
+pub next_carried : {N : ℕ} (d : Draft N) (s l : ℕ) (k r : SpanMarks) → 0 < l → s + l < d.count
     → Growing k l (s + l) d.known (get_or d.tokens s no_token)
     (get_or d.tokens (s + l - 1) no_token) (get_or d.tokens (s + l) no_token) r
     → Carried (half d) s l k → Carried (half d) s (l + 1) r

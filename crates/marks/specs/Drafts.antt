@@ -5,14 +5,14 @@ use Rattle.marks.specs.declared.Draft.{Draft}
 use Rattle.marks.specs.Half.{Half}
 
 -- the word of a draft: its first `count` tokens, open ones too
-abbrev pub drafted : Draft → Word
+abbrev pub drafted : {N : ℕ} → Draft N → Word
 drafted d = take d.count d.tokens
 
 -- and how far it is known
-abbrev pub half : Draft → Half
+abbrev pub half : {N : ℕ} → Draft N → Half
 half d = record { word = drafted d; known = d.known }
 
 -- the span of len tokens from start on lies in the draft
-pub record SpanFits (d : Draft) (start len : ℕ) : Type 0 where
+pub record SpanFits (d : Draft 64) (start len : ℕ) : Type 0 where
   pub few : d.count ≤ 64
   pub fits : start + len ≤ d.count

@@ -9,7 +9,7 @@ use Rattle.grammar.specs.declared.Token.{Token}
 use Rattle.grammar.specs.declared.Column.{Column}
 use Rattle.grammar.specs.Layout.{Keeps, Pairs}
 use Rattle.grammar.specs.Trees.{Covers}
-use Rattle.marks.specs.declared.Least.{Least}
+use Rattle.std.specs.Prelude.{None}
 use Rattle.marks.specs.declared.SpanMarks.{SpanMarks}
 use Rattle.marks.specs.Half.{Half, token_at, MayBe, MayKeep, MayPair}
 use Rattle.marks.specs.Later.{LeastLater, Grows, OffsideBy, OffalignBy}
@@ -72,7 +72,7 @@ pub record Advanced (k : SpanMarks) (l at known : ℕ) (a z t : Token) (r : Span
 -- the marks of one token with the terminal t and the column c, or of none
 abbrev pub alone : ℕ → Column → SpanMarks
 alone t c =
-    record { first = c; least = Least.None; single = true; align = 0; indent = 0; terminal = t }
+    record { first = c; least = None; single = true; align = 0; indent = 0; terminal = t }
 
 -- set has the left lengths from 1 to below `to` at which the mark may hold of the tokens from s on
 pub record Pairing (m : BinaryMark) (h : Half) (s to set : ℕ) : Type 0 where

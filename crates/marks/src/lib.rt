@@ -2,7 +2,7 @@
 // leave to a rule.
 #![tactic(auto)]
 
-ghost use Rattle.std.specs.Prelude.{◌≡◌, true, false, ◌+◌, ◌-◌, ◌≤◌, ◌<◌};
+ghost use Rattle.std.specs.Prelude.{◌≡◌, true, ◌+◌, ◌-◌, ◌≤◌, ◌<◌};
 ghost use Rattle.sets.specs.Says.{Says};
 ghost use Rattle.sets.specs.Sets.{In};
 ghost use Rattle.grammar.specs.Layout.{Keeps, Pairs};
@@ -18,28 +18,21 @@ use sets::{has, with};
 // The first `count` of the tokens, of which the first `known` count and the others are open: an
 // open token meets any mark.
 #[derive(Clone, Copy)]
-pub struct Draft {
-    pub tokens: [Token; 64],
+pub struct Draft<const N: usize> {
+    pub tokens: [Token; N],
     pub count: usize,
     pub known: usize,
 }
 
-// The least column met on lines later than the first token's, or none.
-#[derive(Clone, Copy)]
-pub enum Least {
-    None,
-    At(Column),
-}
-
 // What the tokens of a span leave to a rule, as it is carried along while the span grows by a
-// token: the first token's column and the least column on later lines, by which offside and
-// offalign are decided; do all tokens stand on one line; at which left lengths, from 1 to below the
-// span's length, do align and indent hold (at the others they hold always); and which terminal has
-// the first token (asked of a span of one token alone).
+// token: the first token's column and the least column on later lines, if there is one, by which
+// offside and offalign are decided; do all tokens stand on one line; at which left lengths, from 1
+// to below the span's length, do align and indent hold (at the others they hold always); and which
+// terminal has the first token (asked of a span of one token alone).
 #[derive(Clone, Copy)]
 pub struct SpanMarks {
     pub first: Column,
-    pub least: Least,
+    pub least: Option<Column>,
     pub single: bool,
     pub align: u64,
     pub indent: u64,
@@ -47,30 +40,21 @@ pub struct SpanMarks {
 }
 
 // The least column, with the column `c` besides.
-fn with_column(v: Least, c: Column) -> Least
+fn with_column(v: Option<Column>, c: Column) -> Option<Column>
     ensures { result ≡ lesser v c }
 {
     match v {
-        Least::None => Least::At(c),
-        Least::At(d) => {
-            if column_before(c, d) {
-                Least::At(c)
-            } else {
-                Least::At(d)
-            }
-        }
+        None => Some(c),
+        Some(d) => Some(d.min(c)),
     }
 }
 
 // The least column of a span that grows by the token `t`; its first token is `a`.
-pub fn grow(v: Least, a: Token, t: Token) -> Least
+pub fn grow(v: Option<Column>, a: Token, t: Token) -> Option<Column>
     ensures { Grows v a t result }
 {
-    let line = a.line;
-    let next = t.line;
-    let c = t.column;
-    if line_before(line, next) {
-        with_column(v, c)
+    if line_before(a.line, t.line) {
+        with_column(v, t.column)
     } else {
         v
     }
@@ -78,53 +62,33 @@ pub fn grow(v: Least, a: Token, t: Token) -> Least
 
 // Does offside hold of a span whose first token has the column `c`, `v` being its least column on
 // later lines?
-pub fn offside(c: Column, v: Least) -> bool
+pub fn offside(c: Column, v: Option<Column>) -> bool
     ensures { Says result (OffsideBy c v) }
 {
     match v {
-        Least::None => true,
-        Least::At(l) => { if column_before(c, l) { true } else { false } }
+        None => true,
+        Some(l) => column_before(c, l),
     }
 }
 
 // Does offalign?
-pub fn offalign(c: Column, v: Least) -> bool
+pub fn offalign(c: Column, v: Option<Column>) -> bool
     ensures { Says result (OffalignBy c v) }
 {
     match v {
-        Least::None => true,
-        Least::At(l) => { if column_before(l, c) { false } else { true } }
+        None => true,
+        Some(l) => !column_before(l, c),
     }
-}
-
-// Are the columns the same?
-fn same_column(a: Column, b: Column) -> bool
-    ensures { Says result (a.0 ≡ b.0) }
-{
-    if column_before(a, b) {
-        return false;
-    }
-    if column_before(b, a) { false } else { true }
 }
 
 // Does the mark hold of a word from `a` to `z` and a word from `b` on?
 pub fn pairs(m: BinaryMark, a: Token, z: Token, b: Token) -> bool
     ensures { Says result (Pairs m a z b) }
 {
-    let ca = a.column;
-    let cb = b.column;
-    let lz = z.line;
-    let lb = b.line;
     match m {
         BinaryMark::None => true,
-        BinaryMark::Align => same_column(ca, cb),
-        BinaryMark::Indent => {
-            if column_before(ca, cb) {
-                if line_before(lz, lb) { true } else { false }
-            } else {
-                false
-            }
-        }
+        BinaryMark::Align => a.column == b.column,
+        BinaryMark::Indent => column_before(a.column, b.column) && line_before(z.line, b.line),
     }
 }
 
@@ -132,16 +96,11 @@ pub fn pairs(m: BinaryMark, a: Token, z: Token, b: Token) -> bool
 fn still(yes: bool, a: Token, t: Token) -> bool
     ensures { Says result ((yes ≡ true) × Keeps Unary.Single a t) }
 {
-    let la = a.line;
-    let lt = t.line;
-    if line_before(la, lt) {
-        return false;
-    }
-    if line_before(lt, la) { false } else { yes }
+    yes && t.line == a.line
 }
 
 // The set, with `l` besides if `yes` says so.
-fn included(set: u64, l: usize, yes: bool) -> u64
+pub fn included(set: u64, l: usize, yes: bool) -> u64
     requires { l < 64 }
     ensures { Included set l yes result }
 {
@@ -153,21 +112,14 @@ fn with_known(k: SpanMarks, a: Token, z: Token, t: Token, left: usize) -> SpanMa
     requires { left < 64 }
     ensures { Joined k left a z t result }
 {
-    let v = k.least;
-    let least = grow(v, a, t);
-    let first = k.first;
-    let single = still(k.single, a, t);
     let aligns = pairs(BinaryMark::Align, a, z, t);
-    let align = included(k.align, left, aligns);
     let indents = pairs(BinaryMark::Indent, a, z, t);
-    let indent = included(k.indent, left, indents);
     SpanMarks {
-        first,
-        least,
-        single,
-        align,
-        indent,
-        terminal: k.terminal,
+        least: grow(k.least, a, t),
+        single: still(k.single, a, t),
+        align: included(k.align, left, aligns),
+        indent: included(k.indent, left, indents),
+        ..k
     }
 }
 
@@ -176,17 +128,10 @@ fn with_open(k: SpanMarks, left: usize) -> SpanMarks
     requires { left < 64 }
     ensures { result ≡ opened k left }
 {
-    let first = k.first;
-    let least = k.least;
-    let align = with(k.align, left as u8);
-    let indent = with(k.indent, left as u8);
     SpanMarks {
-        first,
-        least,
-        single: k.single,
-        align,
-        indent,
-        terminal: k.terminal,
+        align: with(k.align, left as u8),
+        indent: with(k.indent, left as u8),
+        ..k
     }
 }
 
@@ -216,7 +161,7 @@ pub fn first_marks(terminal: u8, column: Column) -> SpanMarks
 {
     SpanMarks {
         first: column,
-        least: Least::None,
+        least: None,
         single: true,
         align: 0,
         indent: 0,
@@ -225,24 +170,20 @@ pub fn first_marks(terminal: u8, column: Column) -> SpanMarks
 }
 
 // What the tokens of the span leave to a rule.
-pub fn span_marks(d: Draft, start: usize, len: usize) -> SpanMarks
+pub fn span_marks(d: Draft<64>, start: usize, len: usize) -> SpanMarks
     requires { SpanFits d start len }
     ensures { Marked (half d) start len result }
 {
     if len == 0 {
         return first_marks(0, Column(0));
     }
-    let known = d.known;
     let a = d.tokens[start];
-    let c = a.column;
-    let mut k = first_marks(a.terminal, c);
-    let mut left = 1;
-    while left < len {
+    let mut k = first_marks(a.terminal, a.column);
+    for left in 1..len {
         let at = start + left;
         let z = d.tokens[at - 1];
         let t = d.tokens[at];
-        k = with_next(k, a, z, t, left, at, known);
-        left += 1;
+        k = with_next(k, a, z, t, left, at, d.known);
     }
     k
 }
@@ -251,22 +192,17 @@ pub fn span_marks(d: Draft, start: usize, len: usize) -> SpanMarks
 pub fn allows_atom(k: SpanMarks, a: u8, b: u8) -> bool
     ensures { Says result (AtomBy k a b) }
 {
-    if k.terminal < a {
-        return false;
-    }
-    k.terminal <= b
+    a <= k.terminal && k.terminal <= b
 }
 
 // Do they leave it to a unary rule with the mark `m`?
 pub fn allows_unary(k: SpanMarks, m: UnaryMark) -> bool
     ensures { Says result (UnaryBy k m) }
 {
-    let c = k.first;
-    let v = k.least;
     match m {
         UnaryMark::None => true,
-        UnaryMark::Offside => offside(c, v),
-        UnaryMark::Offalign => offalign(c, v),
+        UnaryMark::Offside => offside(k.first, k.least),
+        UnaryMark::Offalign => offalign(k.first, k.least),
         UnaryMark::Single => k.single,
     }
 }
@@ -276,13 +212,7 @@ fn listed(set: u64, l: usize, len: usize) -> bool
     requires { (l ≤ len) × (len ≤ 64) }
     ensures { Says result ((0 < l → l < len → In set l)) }
 {
-    if l == 0 {
-        return true;
-    }
-    if l == len {
-        return true;
-    }
-    has(set, l as u8)
+    l == 0 || l == len || has(set, l as u8)
 }
 
 // Do they leave the span of `len` tokens to a binary rule with the mark `m` and `l` tokens on its

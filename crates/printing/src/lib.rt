@@ -18,12 +18,9 @@ pub fn put_bytes(out: &mut [u8], at: usize, bytes: &[u8]) -> usize
     requires { at + length bytes.now ≤ length out.old }
     ensures { Wrote out.old out.new at bytes.now result }
 {
-    let mut i = 0;
-    while i < bytes.len() {
-        out[at + i] = bytes[i];
-        i += 1;
-    }
-    at + i
+    let next = at + bytes.len();
+    out[at..next].copy_from_slice(bytes);
+    next
 }
 
 // A number in base ten without a leading zero.
@@ -53,19 +50,13 @@ pub fn put_ended(out: &mut [u8], at: usize, v: u32, end: u8) -> usize
 fn letter(kind: u8) -> u8
     ensures { result ≡ letter_of kind }
 {
-    if kind == 0 {
-        return 69;
+    match kind {
+        0 => b'E',
+        1 => b'A',
+        2 => b'U',
+        3 => b'B',
+        _ => b'C',
     }
-    if kind == 1 {
-        return 65;
-    }
-    if kind == 2 {
-        return 85;
-    }
-    if kind == 3 {
-        return 66;
-    }
-    67
 }
 
 // A tree line.
@@ -91,9 +82,8 @@ pub fn put_rows(out: &mut [u8], at: usize, tree: u8, rows: &[u8], count: usize) 
         (row_lines tree (take (4 * count) rows.now)) result }
     ensures upper_bound { result ≤ at + 26 * count }
 {
-    let mut i = 0;
     let mut next = at;
-    while i < count {
+    for i in 0..count {
         let p = 4 * i;
         next = put_row(
             out,
@@ -104,7 +94,6 @@ pub fn put_rows(out: &mut [u8], at: usize, tree: u8, rows: &[u8], count: usize) 
             rows[p + 2],
             rows[p + 3],
         );
-        i += 1;
     }
     next
 }

@@ -2,7 +2,7 @@
 use mathlib.Core.Path.{◌≡◌, refl, sym, ap, ◌∙◌}
 use mathlib.Core.List.{List, [], ◌∷◌, ◌++◌}
 use mathlib.Core.Bool.{Bool, true, false, cond, ◌&&◌, ◌||◌}
-use mathlib.Core.Option.{Option, none, some}
+use Rattle.std.specs.Prelude.{Option, None, Some}
 use Prim.Native.Nat.{ℕ, ◌+◌, ◌-◌, ◌≤◌, ◌<◌}
 use native.Mathlib.Omega.{arith}
 use lib.ListN.{length, length-append}
@@ -23,7 +23,6 @@ use Rattle.sheets.specs.RuleSheets.{any_of}
 use Rattle.sheets.proofs.Loop.{line_cut, line_less}
 use Rattle.tree_view.proofs.Members.{member_none}
 use Rattle.rights.specs.declared.Right.{Right}
-use Rattle.rights.specs.declared.RightLine.{RightLine}
 use Rattle.rights.specs.RightLines.{may_of, last_of, right_of_of, after_high, after_low, after_user}
 use Rattle.rights.specs.RightLines.{right_line}
 use Rattle.rights.specs.RightSheets.{right_said, right_line_step, right_step, items_of, covers}
@@ -50,16 +49,16 @@ pub record RightRanged (r : Right) : Type 0 where
   pub rises : r.low ≤ r.high
   pub small : r.high < 64
 
-abbrev RangedLine : RightLine → Type 0
-RangedLine (RightLine.Good r) = RightRanged r
-RangedLine RightLine.Bad = Unit {0}
+abbrev RangedLine : Option Right → Type 0
+RangedLine (Some r) = RightRanged r
+RangedLine None = Unit {0}
 
 of_ranged : (u l h : ℕ) (m : Bool) → RangedLine (right_of_of u l h m)
 of_ranged u l h m = go (leb u 15) (leb h 63) refl (leb l h) refl
   where
     go : (a b : Bool) → leb h 63 ≡ b → (c : Bool) → leb l h ≡ c
         → RangedLine (cond (a && (b && c))
-        (RightLine.Good (record { user = u; low = l; high = h; change = m })) RightLine.Bad)
+        (Some (record { user = u; low = l; high = h; change = m })) None)
     go true true e true f = let p = leb-true h 63 e in let q = leb-true l h f in
         record { rises = q; small = omega arith }
     go true true e false f = tt
@@ -69,15 +68,15 @@ of_ranged u l h m = go (leb u 15) (leb h 63) refl (leb l h) refl
 high_ranged : (u l h : ℕ) (fs : List (List ℕ)) → RangedLine (after_high u l h fs)
 high_ranged u l h fs = go (last_of may_of fs)
   where
-    go : (o : Option Bool) → RangedLine (on_value RightLine.Bad o (right_of_of u l h))
-    go (some m) = of_ranged u l h m
-    go none = tt
+    go : (o : Option Bool) → RangedLine (on_value None o (right_of_of u l h))
+    go (Some m) = of_ranged u l h m
+    go None = tt
 
 line_ranged : (line : List ℕ) → RangedLine (right_line line)
 line_ranged line =
-    with_holds RangedLine RightLine.Bad tt numeral_of after_user
-    (λ u. with_holds RangedLine RightLine.Bad tt numeral_of (after_low u)
-    (λ l. with_holds RangedLine RightLine.Bad tt numeral_of (after_high u l)
+    with_holds RangedLine None tt numeral_of after_user
+    (λ u. with_holds RangedLine None tt numeral_of (after_low u)
+    (λ l. with_holds RangedLine None tt numeral_of (after_high u l)
     (λ h. high_ranged u l h))) (pieces 32 line)
 
 next_inj : (q r : Right) → next q ≡ next r → q ≡ r
@@ -88,9 +87,9 @@ pub gives_right : (line : List ℕ) (ended : Bool) (r : Right) → next r ≡ ri
     → (ended ≡ true) × RightRanged r
 gives_right line true r e = (refl, go (right_line line) (line_ranged line) e)
   where
-    go : (x : RightLine) → RangedLine x → next r ≡ right_said x → RightRanged r
-    go (RightLine.Good q) h e = rw (next_inj r q e) h
-    go RightLine.Bad h e = absurd (clash cc)
+    go : (x : Option Right) → RangedLine x → next r ≡ right_said x → RightRanged r
+    go (Some q) h e = rw (next_inj r q e) h
+    go None h e = absurd (clash cc)
 gives_right line false r e = absurd (go (is_empty line) e)
   where
     go : (b : Bool) → next r ≡ cond b end (stop 50) → ⊥
@@ -176,7 +175,7 @@ module _ {s : List ℕ} {start u sees changes n at : ℕ} (T : Reading-on s star
     holds = holds_more r T.holds f g;
   }
 
-  pub on_stop : stop 50 ≡ made → items_of (pieces_from 10 s start) ≡ refused 50 (n + 2)
+  pub on_stop : {f : ℕ} → stop f ≡ made → items_of (pieces_from 10 s start) ≡ refused f (n + 2)
   on_stop h = turn ∙ rw (← h, T.many) refl
 
   pub on_end : end ≡ made → items_of (pieces_from 10 s start) ≡ accepted T.rights

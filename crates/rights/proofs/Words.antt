@@ -2,7 +2,7 @@
 use mathlib.Core.Path.{◌≡◌, refl, sym, ap, ◌∙◌}
 use mathlib.Core.List.{List, [], ◌∷◌, ◌++◌}
 use mathlib.Core.Bool.{Bool, true, false, ◌&&◌}
-use mathlib.Core.Option.{none}
+use Rattle.std.specs.Prelude.{Some, None}
 use Prim.Native.Nat.{ℕ, ◌≤◌, ◌<◌}
 use lib.ListN.{length}
 use lib.Dec.{eqb}
@@ -14,9 +14,7 @@ use Rattle.fields.proofs.Lines.{fields_of}
 use Rattle.fields.proofs.Fields.{left_none}
 use Rattle.fields.proofs.Pick.{hit, skip, miss}
 use Rattle.fields.proofs.Cuts.{FreeOf, Cut, whole, after, cut_of, pieces_free, pieces_cut}
-use Rattle.rights.specs.declared.May.TheVariants as May
 use Rattle.rights.specs.RightLines.{may_of, last_of}
-use Rattle.rights.specs.Answers.{as_may}
 use Rattle.fields.specs.Cursors.{bytes_left, fields_left}
 
 -- bytes with a blank are no word without one
@@ -30,10 +28,10 @@ blank_not (x ∷ u) v (y ∷ w) h = go (eqb x y) (blank_not u v w h.1)
     go true e = e
     go false e = refl
 
-more_none : (u v : List ℕ) → last_of may_of (u ∷ pieces 32 v) ≡ none
+more_none : (u v : List ℕ) → last_of may_of (u ∷ pieces 32 v) ≡ None
 more_none u v = rw (pieces_first 32 v)
 
-blank_none : (u v : List ℕ) → may_of (u ++ 32 ∷ v) ≡ none
+blank_none : (u v : List ℕ) → may_of (u ++ 32 ∷ v) ≡ None
 blank_none u v = rw (
   blank_not u v (115 ∷ 101 ∷ 101 ∷ []) (refl, (refl, (refl, tt))),
   blank_not u v
@@ -49,7 +47,7 @@ last_pieces b = go (cut_of 32 b)
     go (after u v f) = rw (pieces_cut 32 u v f) (more_none u v ∙ sym (blank_none u v))
 
 module _ (s : List ℕ) (c : Cursor) (inside : c.end ≤ length s) where
-  pub may_none : c.end < c.at → May.Not ≡ as_may (last_of may_of (fields_left s c))
+  pub may_none : c.end < c.at → None ≡ last_of may_of (fields_left s c)
   may_none h = rw (left_none s c inside h)
 
   module _ (low : c.at ≤ c.end) where
@@ -57,15 +55,15 @@ module _ (s : List ℕ) (c : Cursor) (inside : c.end ≤ length s) where
     may_left = ap (last_of may_of) (fields_of s c low inside) ∙ last_pieces (bytes_left s c)
 
     pub may_see : true ≡ same_bytes (bytes_left s c) (115 ∷ 101 ∷ 101 ∷ [])
-        → May.See ≡ as_may (last_of may_of (fields_left s c))
-    may_see e = sym (ap as_may (may_left ∙ hit (sym e) _ _))
+        → Some false ≡ last_of may_of (fields_left s c)
+    may_see e = sym ((may_left ∙ hit (sym e) _ _))
 
     pub may_change : false ≡ same_bytes (bytes_left s c) (115 ∷ 101 ∷ 101 ∷ [])
         → true ≡ same_bytes (bytes_left s c) (99 ∷ 104 ∷ 97 ∷ 110 ∷ 103 ∷ 101 ∷ [])
-        → May.Change ≡ as_may (last_of may_of (fields_left s c))
-    may_change e f = sym (ap as_may (may_left ∙ skip (sym e) _ _ _ (hit (sym f) _ _)))
+        → Some true ≡ last_of may_of (fields_left s c)
+    may_change e f = sym ((may_left ∙ skip (sym e) _ _ _ (hit (sym f) _ _)))
 
     pub may_not : false ≡ same_bytes (bytes_left s c) (115 ∷ 101 ∷ 101 ∷ [])
         → false ≡ same_bytes (bytes_left s c) (99 ∷ 104 ∷ 97 ∷ 110 ∷ 103 ∷ 101 ∷ [])
-        → May.Not ≡ as_may (last_of may_of (fields_left s c))
-    may_not e f = sym (ap as_may (may_left ∙ skip (sym e) _ _ _ (miss (sym f) _ _)))
+        → None ≡ last_of may_of (fields_left s c)
+    may_not e f = sym ((may_left ∙ skip (sym e) _ _ _ (miss (sym f) _ _)))

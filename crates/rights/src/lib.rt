@@ -5,15 +5,15 @@
 ghost use Rattle.std.specs.Prelude.{◌≡◌, ◌&&◌, ◌||◌, ℕ, ◌≤◌, ◌<◌, length, leb, ltb};
 ghost use Rattle.rights.specs.RightLines.{right_of_of, right_fields, last_of, may_of};
 ghost use Rattle.rights.specs.RightSheets.{right_line_step, items_of, rights_sheet, covers};
-ghost use Rattle.sheets.specs.Items.{refused};
-ghost use Rattle.rights.specs.Answers.{as_may, as_step, RightsGiven};
+ghost use Rattle.sheets.specs.Promises.{as_step};
+ghost use Rattle.rights.specs.Answers.{RightsGiven};
 ghost use Rattle.fields.specs.Cursors.{bytes_left, fields_left, pieces_from};
 ghost use Rattle.tree_view.specs.Members.{member};
 
-use fields::{Cursor, ThreeNumbers, same};
+use fields::Cursor;
 use lines::{Turn, turn_at};
 use sets::with;
-use sheets::{Fault, Outcome};
+use sheets::{Fault, Refusal, behind_names};
 
 // A line of a rights sheet: its user, its range of nonterminals, and whether it says `change`,
 // which includes seeing.
@@ -25,72 +25,41 @@ pub struct Right {
     pub change: bool,
 }
 
-// A right, or a line not so written.
+// What the sheet gives a user: the sets of nonterminals that the user may see and may change.
 #[derive(Clone, Copy)]
-pub enum RightLine {
-    Good(Right),
-    Bad,
-}
-
-// `change`, `see`, or neither.
-#[derive(Clone, Copy)]
-pub enum May {
-    Change,
-    See,
-    Not,
-}
-
-// What a line gives: one more right, refusal 50, or the sheet's end.
-#[derive(Clone, Copy)]
-pub enum RightStep {
-    Next(Right),
-    Stop,
-    End,
-}
-
-// What the sheet gives a user: the sets of nonterminals that the user may see and may change; both
-// are empty where it is refused.
-#[derive(Clone, Copy)]
-pub struct RightsRead {
-    pub outcome: Outcome,
+pub struct Granted {
     pub sees: u64,
     pub changes: u64,
 }
 
-// The last field of a line: `see` or `change`.
-fn may_at(s: &[u8], c: Cursor) -> May
+// The last field of a line, `see` or `change`: does it say change?
+fn may_at(s: &[u8], c: Cursor) -> Option<bool>
     requires { c.end ≤ length s.now }
-    ensures { result ≡ as_may (last_of may_of (fields_left s.now c)) }
+    ensures { result ≡ last_of may_of (fields_left s.now c) }
 {
     let at = c.at;
     let end = c.end;
     if end < at {
-        return May::Not;
+        return None;
     }
     let f = &s[at..end];
-    if same(f, b"see") {
-        return May::See;
+    if f == b"see".as_slice() {
+        return Some(false);
     }
-    if same(f, b"change") {
-        return May::Change;
+    if f == b"change".as_slice() {
+        return Some(true);
     }
-    May::Not
+    None
 }
 
 // User 0 to 15, a range of nonterminals 0 to 63 that is not reversed.
-fn right_of(u: u32, low: u32, high: u32, change: bool) -> RightLine
+fn right_of(u: u32, low: u32, high: u32, change: bool) -> Option<Right>
     ensures { result ≡ right_of_of u low high change }
 {
-    if 15 < u {
-        return RightLine::Bad;
+    if 15 < u || 63 < high || high < low {
+        return None;
     }
-    if 63 < high {
-        return RightLine::Bad;
-    }
-    if high < low {
-        return RightLine::Bad;
-    }
-    RightLine::Good(Right {
+    Some(Right {
         user: u as u8,
         low: low as u8,
         high: high as u8,
@@ -98,37 +67,30 @@ fn right_of(u: u32, low: u32, high: u32, change: bool) -> RightLine
     })
 }
 
-// The fields from a cursor on as those of a rights line.
-fn right_line(s: &[u8], c: Cursor) -> RightLine
+// The fields from a cursor on as those of a rights line; none, if it is not so written.
+fn right_line(s: &[u8], c: Cursor) -> Option<Right>
     requires { c.end ≤ length s.now }
     ensures { result ≡ right_fields (fields_left s.now c) }
 {
-    let ThreeNumbers::Are(u, low, high, d) = c.three(s) else {
-        return RightLine::Bad;
-    };
-    match may_at(s, d) {
-        May::Change => right_of(u, low, high, true),
-        May::See => right_of(u, low, high, false),
-        May::Not => RightLine::Bad,
-    }
+    let (u, low, high, d) = c.three(s)?;
+    let change = may_at(s, d)?;
+    right_of(u, low, high, change)
 }
 
-// What the cursor's line gives.
-fn right_step(s: &[u8], c: Cursor) -> RightStep
+// What the cursor's line gives: one more right, refusal 50, or the sheet's end.
+fn right_step(s: &[u8], c: Cursor) -> Result<Option<Right>, Fault>
     requires { (c.at ≤ c.end) × (c.end ≤ length s.now) }
     ensures { as_step result ≡ right_line_step (bytes_left s.now c)
         (ltb c.end (length s.now)) }
 {
     match turn_at(s, c, 0, 1) {
-        Turn::End => RightStep::End,
-        Turn::Many => RightStep::Stop,
-        Turn::Open => RightStep::Stop,
-        Turn::Whole => {
-            match right_line(s, c) {
-                RightLine::Good(r) => RightStep::Next(r),
-                RightLine::Bad => RightStep::Stop,
-            }
-        }
+        Turn::End => Ok(None),
+        Turn::Many => Err(Fault::Rights),
+        Turn::Open => Err(Fault::Rights),
+        Turn::Whole => match right_line(s, c) {
+            Some(r) => Ok(Some(r)),
+            None => Err(Fault::Rights),
+        },
     }
 }
 
@@ -137,11 +99,9 @@ fn with_range(set: u64, low: u8, high: u8) -> u64
     requires { (low ≤ high) × (high < 64) }
     ensures { (A : ℕ) → member result A ≡ (member set A || (leb low A && leb A high)) }
 {
-    let mut i = low;
     let mut out = set;
-    while i <= high {
+    for i in low..=high {
         out = with(out, i);
-        i += 1;
     }
     out
 }
@@ -168,19 +128,8 @@ fn with_change(set: u64, r: Right, user: usize) -> u64
     set
 }
 
-// A refused rights sheet.
-fn refuse_rights(line: usize, user: usize) -> RightsRead
-    ensures { RightsGiven (refused 50 line) user result }
-{
-    RightsRead {
-        outcome: Outcome::Refused(Fault::Rights, line),
-        sees: 0,
-        changes: 0,
-    }
-}
-
 // The rights lines from a place on.
-fn rights_from(s: &[u8], start: usize, user: usize) -> RightsRead
+fn rights_from(s: &[u8], start: usize, user: usize) -> Result<Granted, Refusal>
     requires { (2 ≤ start) × (start ≤ length s.now) }
     ensures { RightsGiven (items_of (pieces_from 10 s.now start)) user result }
 {
@@ -188,40 +137,35 @@ fn rights_from(s: &[u8], start: usize, user: usize) -> RightsRead
     let mut changes: u64 = 0;
     let mut n: usize = 0;
     let mut at = start;
+    // Kept: no range counts the turns, since a line's end alone says where the next begins.
     loop {
         let c = Cursor::line(s, at);
         match right_step(s, c) {
-            RightStep::Next(r) => {
+            Ok(Some(r)) => {
                 sees = with_right(sees, r, user);
                 changes = with_change(changes, r, user);
                 n += 1;
                 at = c.end + 1;
             }
-            RightStep::Stop => {
-                return refuse_rights(n + 2, user);
+            Ok(None) => {
+                return Ok(Granted { sees, changes });
             }
-            RightStep::End => {
-                return RightsRead {
-                    outcome: Outcome::Accepted,
-                    sees,
-                    changes,
-                };
+            Err(fault) => {
+                return Err(Refusal { fault, line: n + 2 });
             }
         }
     }
 }
 
 // The rights sheet: what it lets the user see and change, or refusal 50 with its line.
-pub fn read_rights(s: &[u8], user: usize) -> RightsRead
+pub fn read_rights(s: &[u8], user: usize) -> Result<Granted, Refusal>
     ensures { RightsGiven (rights_sheet s.now) user result }
 {
-    let c = Cursor::line(s, 0);
-    let end = c.end;
-    if end < s.len() {
-        if same(&s[..end], b"user low high may") {
-            return rights_from(s, end + 1, user);
-        }
-        return refuse_rights(1, user);
+    match behind_names(s, b"user low high may") {
+        Some(at) => rights_from(s, at, user),
+        None => Err(Refusal {
+            fault: Fault::Rights,
+            line: 1,
+        }),
     }
-    refuse_rights(1, user)
 }

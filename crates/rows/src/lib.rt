@@ -1,38 +1,61 @@
 // A tree's rows and its pending nodes as bytes: the leaves of the tree writer.
 #![tactic(auto)]
 
-ghost use Rattle.std.specs.Prelude.{◌≡◌, [], ◌∷◌, ◌++◌, ◌+◌, ◌-◌, ◌≤◌, ◌<◌, length, take};
+ghost use Rattle.std.specs.Prelude.{◌≡◌, ◌++◌, ◌+◌, ◌-◌, ◌≤◌, ◌<◌, length, take};
 ghost use Rattle.std.specs.Prelude.{replicate};
 ghost use Rattle.std.proofs.Math.Option.{some};
 ghost use Rattle.std.proofs.Math.ListN.{get_elem?};
 ghost use Rattle.grammar.specs.declared.Rule.{Rule};
 ghost use Rattle.grammar.specs.Rows.{start_of};
 ghost use Rattle.rows.specs.Bytes.{splice};
-ghost use Rattle.rows.specs.Steps.{kids_of_of, step_of_clause, entries_of, Branches, Branched};
+ghost use Rattle.rows.specs.Steps.{kids_of, clause_kind, step_of_clause, entries_of, Branches};
+ghost use Rattle.rows.specs.Steps.{Branched};
 
 use grammar::{Clause, Grammar};
 
-// What the writer has to know of a node: its kind (0 E, 1 A, 2 U, 3 B, 4 closed), its children's
-// nonterminals, the length of the left word, and whether the node at which the second tree parts
-// from the first is still to come.
+// A node and what stands beneath it: the nonterminals of its children, and of two children the
+// length of the left word. Of a closed node nothing beneath is shown.
+#[derive(Clone, Copy)]
+pub enum Kind {
+    Empty,
+    Atom,
+    Unary(u8),
+    Binary(u8, u8, u8),
+    Closed,
+}
+
+// The byte for its kind in a node's row: 0 E, 1 A, 2 U, 3 B, 4 closed.
+impl From<Kind> for u8 {
+    ghost use Rattle.std.specs.Prelude.{◌≡◌};
+    ghost use Rattle.rows.specs.Steps.{kind_byte};
+
+    ghost from_gives = { λ kind byte. byte ≡ kind_byte kind };
+
+    fn from(kind: Kind) -> u8 {
+        match kind {
+            Kind::Empty => 0,
+            Kind::Atom => 1,
+            Kind::Unary(_) => 2,
+            Kind::Binary(_, _, _) => 3,
+            Kind::Closed => 4,
+        }
+    }
+}
+
+// What the writer has to know of a node, and whether the node at which the second tree parts from
+// the first is still to come.
 #[derive(Clone, Copy)]
 pub struct Step {
-    pub kind: u8,
-    pub first: u8,
-    pub second: u8,
-    pub split: u8,
+    pub kind: Kind,
     pub seeking: bool,
 }
 
 // Four bytes at a place.
-pub fn put(out: &mut [u8], at: usize, a: u8, b: u8, c: u8, d: u8)
+pub fn put(out: &mut [u8], at: usize, four: [u8; 4])
     requires { at + 4 ≤ length out.old }
-    ensures { out.new ≡ splice out.old at (a ∷ b ∷ c ∷ d ∷ []) }
+    ensures { out.new ≡ splice out.old at four }
 {
-    out[at] = a;
-    out[at + 1] = b;
-    out[at + 2] = c;
-    out[at + 3] = d;
+    out[at..at + 4].copy_from_slice(&four);
 }
 
 // Zeros from a place to the end.
@@ -41,25 +64,18 @@ pub fn clear(out: &mut [u8], from: usize)
     ensures { out.new ≡ take from out.old
         ++ replicate (length out.old - from) 0 }
 {
-    let mut i = from;
-    while i < out.len() {
-        out[i] = 0;
-        i += 1;
-    }
+    out[from..].fill(0);
 }
 
-// How many children a node of this kind has.
-pub fn kids(kind: u8) -> usize
-    requires { kind ≤ 4 }
-    ensures { result ≡ kids_of_of kind }
+// How many children of the node are shown.
+pub fn kids(kind: Kind) -> usize
+    ensures { result ≡ kids_of kind }
 {
-    if kind == 2 {
-        return 1;
+    match kind {
+        Kind::Unary(_) => 1,
+        Kind::Binary(_, _, _) => 2,
+        Kind::Empty | Kind::Atom | Kind::Closed => 0,
     }
-    if kind == 3 {
-        return 2;
-    }
-    0
 }
 
 // The start in a row: an empty word has start 0.
@@ -69,71 +85,47 @@ pub fn start_of(i: u8, n: u8) -> u8
     if n == 0 { 0 } else { i }
 }
 
+// The node of a clause, with a left word of k tokens.
+fn clause_kind(c: Clause, k: usize) -> Kind
+    requires { k ≤ 64 }
+    ensures { result ≡ clause_kind c k }
+{
+    match c {
+        Clause::Empty => Kind::Empty,
+        Clause::Atom(_, _) => Kind::Atom,
+        Clause::Unary(b, _) => Kind::Unary(b),
+        Clause::Binary(b, e, _) => Kind::Binary(b, e, k as u8),
+    }
+}
+
 // The step of the rule at a place, with a left word of k tokens.
 pub fn step_of(g: Grammar, p: usize, k: usize, seeking: bool) -> Step
     requires { (p < 128) × (k ≤ 64) }
     ensures { (x : Rule) → get_elem? g.rules p ≡ some x
         → result ≡ step_of_clause x.clause k seeking }
 {
-    let split = k as u8;
     let rule = g.rules[p];
-    let c = rule.clause;
-    match c {
-        Clause::Empty => Step {
-            kind: 0,
-            first: 0,
-            second: 0,
-            split: 0,
-            seeking: seeking,
-        },
-        Clause::Atom(_, _) => Step {
-            kind: 1,
-            first: 0,
-            second: 0,
-            split: 0,
-            seeking: seeking,
-        },
-        Clause::Unary(b, _) => Step {
-            kind: 2,
-            first: b,
-            second: 0,
-            split: 0,
-            seeking: seeking,
-        },
-        Clause::Binary(b, d, _) => Step {
-            kind: 3,
-            first: b,
-            second: d,
-            split: split,
-            seeking: seeking,
-        },
+    Step {
+        kind: clause_kind(rule.clause, k),
+        seeking,
     }
 }
 
 // The children's pending entries right below place top, the left child's first; the new top.
-pub fn branch(out: &mut [u8], top: usize, i: u8, n: u8, st: Step) -> usize
-    requires { Branches out.old top i n st.kind st.split }
-    ensures { Branched out.old out.new top result (kids_of_of st.kind)
-        (entries_of st.kind st.first st.second st.split i n) }
+pub fn branch(out: &mut [u8], top: usize, i: u8, n: u8, kind: Kind) -> usize
+    requires { Branches out.old top i n kind }
+    ensures { Branched out.old out.new top result (kids_of kind) (entries_of kind i n) }
 {
-    let kind = st.kind;
-    let split = st.split;
-    if kind < 2 {
-        return top;
+    match kind {
+        Kind::Unary(b) => {
+            put(out, 4 * (top - 1), [b, i, n, 0]);
+            top - 1
+        }
+        Kind::Binary(b, e, split) => {
+            put(out, 4 * (top - 1), [e, i + split, n - split, 0]);
+            put(out, 4 * (top - 2), [b, i, split, 0]);
+            top - 2
+        }
+        Kind::Empty | Kind::Atom | Kind::Closed => top,
     }
-    if kind == 4 {
-        return top;
-    }
-    if kind == 2 {
-        let at = top - 1;
-        put(out, 4 * at, st.first, i, n, 0);
-        return at;
-    }
-    let next = i + split;
-    let rest = n - split;
-    let right = top - 1;
-    put(out, 4 * right, st.second, next, rest, 0);
-    let left = top - 2;
-    put(out, 4 * left, st.first, i, split, 0);
-    left
 }

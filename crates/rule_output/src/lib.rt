@@ -15,6 +15,7 @@ use rule_words::word_of;
 
 // What is handed on by value, while the rules stand as words behind a reference: how many there
 // are, the next new nonterminal, and whether there was no room for a rule or a nonterminal.
+// Kept: the flag; behind a part without room the readers still want its place and its nonterminal.
 #[derive(Clone, Copy)]
 pub struct Room {
     pub count: usize,
@@ -39,15 +40,10 @@ pub fn push(rules: &mut [u64; 128], out: Room, rule: Rule) -> Room
         rules[count] = word_of(rule);
         return Room {
             count: count + 1,
-            next: out.next,
-            over: out.over,
+            ..out
         };
     }
-    Room {
-        count,
-        next: out.next,
-        over: true,
-    }
+    Room { over: true, ..out }
 }
 
 // One new nonterminal more.
@@ -56,16 +52,11 @@ pub fn fresh(out: Room) -> Room
 {
     if out.next < 64 {
         return Room {
-            count: out.count,
             next: out.next + 1,
-            over: out.over,
+            ..out
         };
     }
-    Room {
-        count: out.count,
-        next: out.next,
-        over: true,
-    }
+    Room { over: true, ..out }
 }
 
 // How many new nonterminals what stands after an item has.

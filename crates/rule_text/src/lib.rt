@@ -121,12 +121,10 @@ pub fn put_rules(out: &mut [u8], at: usize, g: Grammar) -> usize
     ensures wrote { Wrote out.old out.new at (rules_text (rulesOf g)) result }
     ensures upper_bound { result ≤ at + 29 * g.count }
 {
-    let mut i = 0;
     let mut next = at;
-    while i < g.count {
+    for i in 0..g.count {
         let x = g.rules[i];
         next = put_rule(out, next, x);
-        i += 1;
     }
     next
 }

@@ -22,9 +22,6 @@ run_digit v b t h k = rw (le-leb 48 b h, le-leb b 57 k)
 pub run_low : (v b : ℕ) (t : List ℕ) → b < 48 → run v (b ∷ t) ≡ (v, b ∷ t)
 run_low v b t h = rw (lt-leb 48 b h)
 
-pub run_high : (v b : ℕ) (t : List ℕ) → 48 ≤ b → 57 < b → run v (b ∷ t) ≡ (v, b ∷ t)
-run_high v b t h k = rw (le-leb 48 b h, lt-leb b 57 k)
-
 -- more digits never make it less
 pub run_grows : (v : ℕ) (l : List ℕ) → v ≤ (run v l).0
 run_grows v [] = omega arith

@@ -1,6 +1,7 @@
 -- Digits read from a place of a text on: where the reading stands, and where it stops.
 use mathlib.Core.Path.{◌≡◌, refl, sym, ap, ◌∙◌}
 use mathlib.Core.Logic.{◌⊎◌, inl, inr}
+use mathlib.Core.Bool.{false}
 use mathlib.Core.List.{List, ◌∷◌, ◌++◌, append_assoc}
 use Prim.Native.Nat.{ℕ, ◌+◌, ◌-◌, ◌*◌, ◌/◌, ◌%◌, ◌≤◌, ◌<◌}
 use native.Mathlib.Numerals.{add-one}
@@ -10,7 +11,8 @@ use lib.Seq.{drop-cons}
 use Rattle.printing.specs.Printing.{decimal}
 use Rattle.printing.proofs.Decimals.{decimal_one, decimal_more}
 use Rattle.scanning.specs.Scanned.{DigitsAt}
-use Rattle.scanning.proofs.Numbers.{run, run_digit, run_low, run_high, run_grows}
+use Rattle.fields.specs.Words.{is_digit}
+use Rattle.scanning.proofs.Numbers.{run, run_digit, run_grows}
 use Rattle.scanning.proofs.Numbers.{run_decimal, run_ended, zero_alone}
 
 module _ (s : List ℕ) (at most : ℕ) where
@@ -92,14 +94,9 @@ module _ (s : List ℕ) (at most : ℕ) where
       → DigitsAt s at most (record { value = v; next = i })
   stop_end {v} {i} x h = stop x (rw (drop_of_length-le s {i = i} h) refl)
 
-  pub stop_low : {v i : ℕ} → Reached v i → i < length s → get_or s i 0 < 48
+  pub stop_other : {v i : ℕ} → Reached v i → i < length s → is_digit (get_or s i 0) ≡ false
       → DigitsAt s at most (record { value = v; next = i })
-  stop_low {v} {i} x h l = stop x (rw (next i h) (run_low v (get_or s i 0) (drop (i + 1) s) l))
-
-  pub stop_high : {v i : ℕ} → Reached v i → i < length s → 48 ≤ get_or s i 0 → 57 < get_or s i 0
-      → DigitsAt s at most (record { value = v; next = i })
-  stop_high {v} {i} x h l u =
-      stop x (rw (next i h) (run_high v (get_or s i 0) (drop (i + 1) s) l u))
+  stop_other {v} {i} x h e = stop x (rw (next i h, e) refl)
 
   -- it stops where the number would be above `most`
   pub stop_most : {v i : ℕ} → Reached v i → i < length s → 48 ≤ get_or s i 0 → get_or s i 0 ≤ 57

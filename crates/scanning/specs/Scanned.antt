@@ -1,9 +1,10 @@
 -- For the contracts of inner functions only. What stands in a text from a place on: fixed bytes, or
 -- a number with the byte that ends it.
 use Rattle.std.specs.Prelude.{◌≡◌, ◌⊎◌, List, ◌∷◌, ◌++◌, ℕ, ◌≤◌, ◌<◌, length, drop}
+use Rattle.std.specs.Prelude.{Option, Some, None}
 use Rattle.printing.specs.Printing.{decimal}
 use Rattle.scanning.specs.declared.Digits.{Digits}
-use Rattle.scanning.specs.declared.NumberRead.{NumberRead}
+use Rattle.std.specs.Prelude.{Option, Some, None}
 
 -- the text begins with these bytes
 pub record Starts (text bytes : List ℕ) : Type 0 where
@@ -29,6 +30,6 @@ pub record Numbered (s : List ℕ) (at most end v next : ℕ) : Type 0 where
 pub record Unnumbered (s : List ℕ) (at most end : ℕ) : Type 0 where
   pub absent : (v : ℕ) (t : List ℕ) → v ≤ most → drop at s ≡ decimal v ++ (end ∷ t) → ⊥
 
-abbrev pub NumberAt : List ℕ → ℕ → ℕ → ℕ → NumberRead → Type 0
-NumberAt s at most end (NumberRead.Is v next) = Numbered s at most end v next
-NumberAt s at most end NumberRead.Not = Unnumbered s at most end
+abbrev pub NumberAt : List ℕ → ℕ → ℕ → ℕ → Option (ℕ × ℕ) → Type 0
+NumberAt s at most end (Some x) = Numbered s at most end x.0 x.1
+NumberAt s at most end None = Unnumbered s at most end

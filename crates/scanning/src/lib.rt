@@ -5,15 +5,6 @@ ghost use Rattle.std.specs.Prelude.{◌≤◌, ◌<◌, length, drop};
 ghost use Rattle.sets.specs.Says.{Says};
 ghost use Rattle.scanning.specs.Scanned.{Starts, DigitsAt, NumberAt};
 
-use fields::same;
-
-// A number and the place behind the byte that ends it, or no such number.
-#[derive(Clone, Copy)]
-pub enum NumberRead {
-    Is(u64, usize),
-    Not,
-}
-
 // The value of some digits and the place behind them.
 #[derive(Clone, Copy)]
 struct Digits {
@@ -26,13 +17,7 @@ pub fn starts_at(s: &[u8], at: usize, bytes: &[u8]) -> bool
     requires { at ≤ length s.now }
     ensures { Says result (Starts (drop at s.now) bytes.now) }
 {
-    let n = bytes.len();
-    let left = s.len() - at;
-    if left < n {
-        return false;
-    }
-    let end = at + n;
-    same(&s[at..end], bytes)
+    s[at..].starts_with(bytes)
 }
 
 // The digits from a place on that write a number without a leading zero, as far as it is at most
@@ -43,13 +28,9 @@ fn digits_at(s: &[u8], at: usize, most: u64) -> Digits
     ensures { DigitsAt s.now at most result }
 {
     let mut v: u64 = 0;
-    let mut i = at;
-    while i < s.len() {
+    for i in at..s.len() {
         let b = s[i];
-        if b < b'0' {
-            return Digits { value: v, next: i };
-        }
-        if b'9' < b {
+        if !b.is_ascii_digit() {
             return Digits { value: v, next: i };
         }
         let d = b - b'0';
@@ -57,18 +38,23 @@ fn digits_at(s: &[u8], at: usize, most: u64) -> Digits
         if most < w {
             return Digits { value: v, next: i };
         }
-        i += 1;
         if w == 0 {
-            return Digits { value: 0, next: i };
+            return Digits {
+                value: 0,
+                next: i + 1,
+            };
         }
         v = w;
     }
-    Digits { value: v, next: i }
+    Digits {
+        value: v,
+        next: s.len(),
+    }
 }
 
 // The number from a place on, at most `most` and without a leading zero, with the byte `end` behind
-// it.
-pub fn number_at(s: &[u8], at: usize, most: u64, end: u8) -> NumberRead
+// it, and the place behind that byte.
+pub fn number_at(s: &[u8], at: usize, most: u64, end: u8) -> Option<(u64, usize)>
     requires at_in_bounds { at ≤ length s.now }
     requires most_bound { most ≤ 4294967296 }
     requires end_bound { end < 48 }
@@ -77,13 +63,13 @@ pub fn number_at(s: &[u8], at: usize, most: u64, end: u8) -> NumberRead
     let r = digits_at(s, at, most);
     let i = r.next;
     if i == at {
-        return NumberRead::Not;
+        return None;
     }
     if s.len() <= i {
-        return NumberRead::Not;
+        return None;
     }
-    if s[i] == end {
-        return NumberRead::Is(r.value, i + 1);
+    if s[i] != end {
+        return None;
     }
-    NumberRead::Not
+    Some((r.value, i + 1))
 }

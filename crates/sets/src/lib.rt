@@ -9,13 +9,6 @@ ghost use Rattle.sets.specs.Either.{Either};
 ghost use Rattle.sets.specs.Firsts.{FirstFrom};
 ghost use Rattle.sets.specs.Insertion.{insert};
 
-// A member, or none.
-#[derive(Clone, Copy)]
-pub enum Member {
-    At(u8),
-    Nothing,
-}
-
 // Is `a` a member?
 pub fn has(set: u64, a: u8) -> bool
     requires { a < 64 }
@@ -33,18 +26,16 @@ pub fn with(set: u64, a: u8) -> u64
 }
 
 // The least member from `from` on.
-pub fn first_from(set: u64, from: u8) -> Member
+pub fn first_from(set: u64, from: u8) -> Option<u8>
     requires { from ≤ 64 }
     ensures { FirstFrom set from result }
 {
-    let mut t = from;
-    while t < 64 {
+    for t in from..64 {
         if has(set, t) {
-            return Member::At(t);
+            return Some(t);
         }
-        t += 1;
     }
-    Member::Nothing
+    None
 }
 
 // A number as an index.

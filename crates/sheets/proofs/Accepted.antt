@@ -23,8 +23,10 @@ use Rattle.grammar.specs.Candidates.{After, RisingFrom, Rising, Wide}
 use Rattle.grammar.proofs.Lists.{every_append}
 use Rattle.grammar.proofs.ChoiceLaws.{member_at}
 use Rattle.fields.specs.Pieces.{pieces, is_empty, same_bytes}
-use Rattle.lines.specs.declared.RuleLine.{RuleLine}
-use Rattle.lines.specs.declared.TokenLine.{TokenLine}
+use Rattle.std.specs.Prelude.{Result, Ok, Err}
+use Rattle.lines.specs.declared.RuleFault.{RuleFault}
+use Rattle.std.specs.Prelude.{Result, Ok, Err}
+use Rattle.lines.specs.declared.TokenFault.{TokenFault}
 use Rattle.lines.specs.declared.Turn.{Turn}
 use Rattle.lines.specs.Turns.{turn_of}
 use Rattle.lines.specs.RuleLines.{rule_line_of}
@@ -173,13 +175,13 @@ said_kept : (seen : Rules) (line : List ℕ) (t : Rule) → Kept seen → rule_s
     → Kept (seen ++ t ∷ [])
 said_kept seen line t k e = go (rule_line_of line) refl e
   where
-    go : (x : RuleLine) → rule_line_of line ≡ x → rule_said_of seen x ≡ next t
+    go : (x : Result Rule RuleFault) → rule_line_of line ≡ x → rule_said_of seen x ≡ next t
         → Kept (seen ++ t ∷ [])
-    go RuleLine.Form h e = absurd (clash cc)
-    go RuleLine.Range h e = absurd (clash cc)
-    go RuleLine.Unfit h e = absurd (clash cc)
-    go RuleLine.Reversed h e = absurd (clash cc)
-    go (RuleLine.Good r) h e = fresh_kept seen r t (line_small line r h) k e
+    go (Err RuleFault.Form) h e = absurd (clash cc)
+    go (Err RuleFault.Range) h e = absurd (clash cc)
+    go (Err RuleFault.Unfit) h e = absurd (clash cc)
+    go (Err RuleFault.Reversed) h e = absurd (clash cc)
+    go (Ok r) h e = fresh_kept seen r t (line_small line r h) k e
 
 -- a rule that a line gives is in range
 pub rule_small : (seen : Rules) (line : List ℕ) (u : Turn) (t : Rule)
@@ -192,12 +194,13 @@ rule_small seen line u t e =
     fresh_small r sm true e = absurd (clash cc)
     fresh_small r sm false e = let j : r ≡ t = cc in rw (← j) sm
 
-    go : (x : RuleLine) → rule_line_of line ≡ x → rule_said_of seen x ≡ next t → SmallRule t
-    go RuleLine.Form h e = absurd (clash cc)
-    go RuleLine.Range h e = absurd (clash cc)
-    go RuleLine.Unfit h e = absurd (clash cc)
-    go RuleLine.Reversed h e = absurd (clash cc)
-    go (RuleLine.Good r) h e =
+    go : (x : Result Rule RuleFault) → rule_line_of line ≡ x → rule_said_of seen x ≡ next t
+        → SmallRule t
+    go (Err RuleFault.Form) h e = absurd (clash cc)
+    go (Err RuleFault.Range) h e = absurd (clash cc)
+    go (Err RuleFault.Unfit) h e = absurd (clash cc)
+    go (Err RuleFault.Reversed) h e = absurd (clash cc)
+    go (Ok r) h e =
         fresh_small r (line_small line r h) (any_of (has_key (key_of r)) seen) e
 
 pub rules_kept : (ps : List (List ℕ)) (w : Rules) → items_from rule_step [] ps ≡ accepted w → Kept w
@@ -269,12 +272,12 @@ said_placed : (wide : Bool) (seen : Word) (line : List ℕ) (t : Token) → Plac
     → token_says wide seen line ≡ next t → Placed (seen ++ t ∷ [])
 said_placed wide seen line t r e = go (token_line wide line) refl e
   where
-    go : (x : TokenLine) → token_line wide line ≡ x → token_said_of seen x ≡ next t
+    go : (x : Result Token TokenFault) → token_line wide line ≡ x → token_said_of seen x ≡ next t
         → Placed (seen ++ t ∷ [])
-    go TokenLine.Form h e = absurd (clash cc)
-    go TokenLine.Range h e = absurd (clash cc)
-    go TokenLine.Width h e = absurd (clash cc)
-    go (TokenLine.Good u) h e = order_placed seen u t (line_wide wide line u h) r e
+    go (Err TokenFault.Form) h e = absurd (clash cc)
+    go (Err TokenFault.Range) h e = absurd (clash cc)
+    go (Err TokenFault.Width) h e = absurd (clash cc)
+    go (Ok u) h e = order_placed seen u t (line_wide wide line u h) r e
 
 pub tokens_placed : (wide : Bool) (ps : List (List ℕ)) (w : Word)
     → items_from (token_step wide) [] ps ≡ accepted w → Placed w

@@ -1,5 +1,5 @@
 -- A turn of the loop over rule lines, with the rules and their index in one book.
-use mathlib.Core.Path.{◌≡◌, refl, sym, ap, ◌∙◌, subst}
+use mathlib.Core.Path.{◌≡◌, sym, ap, ◌∙◌}
 use mathlib.Core.List.{List}
 use mathlib.Core.Bool.{Bool}
 use Prim.Native.Nat.{ℕ, ◌+◌, ◌≤◌, ◌<◌}
@@ -17,7 +17,7 @@ use Rattle.lengths.specs.declared.Book.{Book}
 use Rattle.lengths.specs.Indexes.{Exact}
 use Rattle.lengths.specs.Books.{Booked, Appended}
 use Rattle.sheets.specs.declared.Fault.{Fault}
-use Rattle.sheets.specs.declared.RuleStep.{RuleStep}
+use Rattle.std.specs.Prelude.{Option, Some, None, Result, Ok, Err}
 use Rattle.sheets.specs.Items.{next, step_at_of, items_from}
 use Rattle.sheets.specs.RuleSheets.{rule_says, rule_step}
 use Rattle.sheets.specs.Promises.{Adds}
@@ -40,27 +40,17 @@ rule_fits seen n line ended {t} e = (
       (turn_of 128 n line ended) t e,
 )
 
--- what a line makes of the book, by what it gives
-pub adds_as : (b x : Book) {u v : RuleStep} → u ≡ v → Adds b u x → Adds b v x
-adds_as b x e a = subst (λ (z : RuleStep). Adds b z x) e a
-
-pub adds_stop : (b : Book) {u : RuleStep} {f : Fault} → u ≡ RuleStep.Stop f → Adds b u b
-adds_stop b {u} {f} e = adds_as b b (sym e) refl
-
-pub adds_end : (b : Book) {u : RuleStep} → u ≡ RuleStep.End → Adds b u b
-adds_end b {u} e = adds_as b b (sym e) refl
-
 -- a refused rule line changes neither rules nor index (`add_line` promises `Adds`)
-pub refused_line_keeps : {b x : Book} (f : Fault) → Adds b (RuleStep.Stop f) x
+pub refused_line_keeps : {b x : Book} (f : Fault) → Adds b (Err f) x
     → (x.grammar ≡ b.grammar) × (x.index ≡ b.index)
 refused_line_keeps f e = (ap (λ (z : Book). z.grammar) e, ap (λ (z : Book). z.index) e)
 
 -- and the index stays true of the rules, whatever a line gives
-pub index_stays_true : (b x : Book) (u : RuleStep) → Booked b → Adds b u x
+pub index_stays_true : (b x : Book) (u : Result (Option Rule) Fault) → Booked b → Adds b u x
     → Exact (rules_of x.grammar) x.index
-index_stays_true b x (RuleStep.Next r) k a = a.booked.exact
-index_stays_true b x (RuleStep.Stop f) k a = rw a k.exact
-index_stays_true b x RuleStep.End k a = rw a k.exact
+index_stays_true b x (Ok (Some r)) k a = a.booked.exact
+index_stays_true b x (Err f) k a = rw a k.exact
+index_stays_true b x (Ok None) k a = rw a k.exact
 
 -- nothing is read yet
 pub reads_none : {s : List ℕ} {start : ℕ} {b : Book} → Booked b → b.grammar.count ≡ 0

@@ -1,74 +1,90 @@
 -- The refused line, from what the two readers answer.
-use mathlib.Core.Path.{◌≡◌, refl, sym, ap, ◌∙◌}
+use mathlib.Core.Path.{◌≡◌, refl, sym}
 use mathlib.Core.List.{List}
 use Prim.Native.Nat.{ℕ, zero, suc, ◌-◌, ◌≤◌}
 use native.Mathlib.Omega.{arith}
 use lib.ListN.{length}
 use denote.Ref.{Bor}
+use Rattle.std.specs.Prelude.{Option, Some, None, Result, Ok, Err}
+use Rattle.std.specs.Result.{result_err}
 use Rattle.fields.specs.Pieces.{pieces}
 use Rattle.fields.specs.Parts.{Part}
-use Rattle.sheets.specs.declared.Fault.{Fault}
+use Rattle.sheets.specs.declared.Refusal.{Refusal}
 use Rattle.sheets.specs.Refusals.{number_of}
-use Rattle.sheets.specs.declared.Outcome.{Outcome}
-use Rattle.sheets.specs.declared.Outcome.TheVariants.{Accepted, Refused}
 use Rattle.sheets.specs.Items.{Reading, refused}
 use Rattle.sheets.specs.Promises.{reading_of}
-use Rattle.sheets.specs.RefusedLines.{of_tokens_of, held_by, LinePart, Hands}
-use Rattle.sheets.specs.LinesIn.{LineIn, held_of, second_held}
+use Rattle.sheets.specs.RefusedLines.{HeldLine, in_rules, in_tokens, of_tokens_of, of_rules}
+use Rattle.sheets.specs.RefusedLines.{held_by, LinePart, Hands}
+use Rattle.sheets.specs.LinesIn.{LineIn, held_of, second_held, held_at}
 use Rattle.grammar.specs.Trees.{Rules}
 
 module _ (R T r : Bor (List ℕ)) where
-  -- what is held, by the outcomes
-  by_outcomes : {o o' p p' : Outcome} → o ≡ o' → p ≡ p' → Hands R T r (held_of o' p')
+  -- what is held, by the refusals
+  by_refusals : {o o' p p' : Option Refusal} → o ≡ o' → p ≡ p' → Hands R T r (held_of o' p')
       → Hands R T r (held_of o p)
-  by_outcomes e f h = rw (e, f) h
+  by_refusals e f h = rw (e, f) h
 
-  pub hands_rules : {o : Outcome} {f : Fault} (p : Outcome) (l : ℕ) → o ≡ Refused f l → (l ≡ 0 → ⊥)
-      → LinePart R (l - 1) r → Hands R T r (held_of o p)
-  hands_rules p zero e n h = absurd (n refl)
-  hands_rules p (suc l) e n h = let k : suc l - 1 ≡ l = omega arith in
-      by_outcomes e refl (rw k at h)
+  -- the line l counts from 1
+  in_line : (S : Bor (List ℕ)) (held : ℕ → HeldLine)
+      → ((n : ℕ) → LinePart S n r → Hands R T r (held n))
+      → (l : ℕ) → (l ≡ 0 → ⊥) → LinePart S (l - 1) r → Hands R T r (held_at held l)
+  in_line S held f zero n h = absurd (n refl)
+  in_line S held f (suc l) n h = let k : suc l - 1 ≡ l = omega arith in f l (rw k at h)
 
-  pub hands_zero : {o : Outcome} {f : Fault} {l : ℕ} (p : Outcome) → o ≡ Refused f l → l ≡ 0
-      → Part R 0 0 r → Hands R T r (held_of o p)
-  hands_zero {o} {f} {l} p e n h = let k : o ≡ Refused f 0 = e ∙ ap (Refused f) n in
-      by_outcomes k refl h
+  no_line : (held : ℕ → HeldLine) (l : ℕ) → l ≡ 0 → Part R 0 0 r → Hands R T r (held_at held l)
+  no_line held l e h = rw e h
 
-  pub hands_tokens : {o p : Outcome} {f : Fault} (l : ℕ) → o ≡ Accepted → p ≡ Refused f l
-      → (l ≡ 0 → ⊥) → LinePart T (l - 1) r → Hands R T r (held_of o p)
-  hands_tokens zero a e n h = absurd (n refl)
-  hands_tokens (suc l) a e n h = let k : suc l - 1 ≡ l = omega arith in by_outcomes a e (rw k at h)
+  pub hands_rules : {o : Option Refusal} (p : Option Refusal) (e : Refusal) → o ≡ Some e
+      → (e.line ≡ 0 → ⊥) → LinePart R (e.line - 1) r → Hands R T r (held_of o p)
+  hands_rules p e is n h = by_refusals is refl (in_line R in_rules (λ m x. x) e.line n h)
 
-  pub hands_tokens_zero : {o p : Outcome} {f : Fault} {l : ℕ} → o ≡ Accepted → p ≡ Refused f l
-      → l ≡ 0 → Part R 0 0 r → Hands R T r (held_of o p)
-  hands_tokens_zero {p = p} {f} a e n h = let k : p ≡ Refused f 0 = e ∙ ap (Refused f) n in
-      by_outcomes a k h
+  pub hands_zero : {o : Option Refusal} {e : Refusal} (p : Option Refusal) → o ≡ Some e
+      → e.line ≡ 0 → Part R 0 0 r → Hands R T r (held_of o p)
+  hands_zero {e = e} p is n h = by_refusals is refl (no_line in_rules e.line n h)
 
-  pub hands_none : {o p : Outcome} → o ≡ Accepted → p ≡ Accepted → Part R 0 0 r
+  pub hands_tokens : {o p : Option Refusal} (e : Refusal) → o ≡ None → p ≡ Some e
+      → (e.line ≡ 0 → ⊥) → LinePart T (e.line - 1) r → Hands R T r (held_of o p)
+  hands_tokens e a is n h = by_refusals a is (in_line T in_tokens (λ m x. x) e.line n h)
+
+  pub hands_tokens_zero : {o p : Option Refusal} {e : Refusal} → o ≡ None → p ≡ Some e
+      → e.line ≡ 0 → Part R 0 0 r → Hands R T r (held_of o p)
+  hands_tokens_zero {e = e} a is n h = by_refusals a is (no_line in_tokens e.line n h)
+
+  pub hands_none : {o p : Option Refusal} → o ≡ None → p ≡ None → Part R 0 0 r
       → Hands R T r (held_of o p)
-  hands_none a e h = by_outcomes a e h
+  hands_none a e h = by_refusals a e h
 
 -- ---- what is held does not go by the items that were read
 
-tokens_held : {A : Type 0} (p : Outcome) (w : A) → second_held p ≡ of_tokens_of (reading_of p w)
-tokens_held Accepted w = refl
-tokens_held (Refused f zero) w = refl
-tokens_held (Refused f (suc n)) w = refl
+tokens_refused : (A : Type 0) (f l : ℕ) → held_at in_tokens l ≡ of_tokens_of {A = A} (refused f l)
+tokens_refused A f zero = refl
+tokens_refused A f (suc n) = refl
 
-rules_held : {A : Type 0} (o p : Outcome) (v : Rules) (w : A)
-    → held_of o p ≡ held_by (reading_of o v) (reading_of p w)
-rules_held Accepted p v w = tokens_held p w
-rules_held (Refused f zero) p v w = refl
-rules_held (Refused f (suc n)) p v w = refl
+rules_refused : (f l : ℕ) (h : HeldLine) → held_at in_rules l ≡ of_rules (refused f l) h
+rules_refused f zero h = refl
+rules_refused f (suc n) h = refl
 
-pub held_same : {A : Type 0} (o p : Outcome) (v : Rules) (w : A) {rules : Reading Rules}
-    {tokens : Reading A}
-    → reading_of o v ≡ rules → reading_of p w ≡ tokens → held_of o p ≡ held_by rules tokens
-held_same o p v w e f = rw (← e, ← f) (rules_held o p v w)
+module _ {A B D : Type 0} (value : A → Rules) (seen : B → D) where
+  tokens_held : (q : Result B Refusal)
+      → second_held (result_err q) ≡ of_tokens_of (reading_of seen q)
+  tokens_held (Ok x) = refl
+  tokens_held (Err e) = tokens_refused D (number_of e.fault) e.line
+
+  rules_held : (r : Result A Refusal) (q : Result B Refusal)
+      → held_of (result_err r) (result_err q) ≡ held_by (reading_of value r) (reading_of seen q)
+  rules_held (Ok x) q = tokens_held q
+  rules_held (Err e) q =
+      rules_refused (number_of e.fault) e.line (of_tokens_of (reading_of seen q))
+
+  pub held_same : (r : Result A Refusal) (q : Result B Refusal) {rules : Reading Rules}
+      {tokens : Reading D}
+      → reading_of value r ≡ rules → reading_of seen q ≡ tokens
+      → held_of (result_err r) (result_err q) ≡ held_by rules tokens
+  held_same r q e f = rw (← e, ← f) (rules_held r q)
 
 -- a refusal's line is a line of the sheet that gives it
-pub line_in : {A : Type 0} (s : List ℕ) (o : Outcome) (w : A) {want : Reading A}
-    → reading_of o w ≡ want
-    → ((n l : ℕ) → want ≡ refused n l → l ≤ length (pieces 10 s)) → LineIn s o
-line_in s Accepted w e h = tt
-line_in s (Refused f l) w e h = h (number_of f) l (sym e)
+pub line_in : {A B : Type 0} (value : A → B) (s : List ℕ) (r : Result A Refusal) {want : Reading B}
+    → reading_of value r ≡ want
+    → ((n l : ℕ) → want ≡ refused n l → l ≤ length (pieces 10 s)) → LineIn s (result_err r)
+line_in value s (Ok x) e h = tt
+line_in value s (Err e) d h = h (number_of e.fault) e.line (sym d)

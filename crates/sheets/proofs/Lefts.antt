@@ -9,7 +9,7 @@ use Rattle.sets.proofs.Says.{says_eqb}
 use Rattle.grammar.specs.declared.Rule.{Rule}
 use Rattle.grammar.specs.declared.Clause.{Clause}
 use Rattle.lines.specs.declared.Key.{Key}
-use Rattle.lines.specs.Keys.{key_with_of, key_of, meets, same_operands}
+use Rattle.lines.specs.Keys.{key_with_of, key_of, kind_number, meets, same_operands}
 use Rattle.sheets.specs.RuleSheets.{has_key}
 
 unequal : (m n : ℕ) → (m ≡ n → ⊥) → eqb m n ≡ false
@@ -25,5 +25,6 @@ left_of l (Clause.Binary a b m) = refl
 pub other_left : (k : Key) (r : Rule) → (r.left ≡ k.left → ⊥) → has_key k r ≡ false
 other_left k r h =
     let e = unequal (key_of r).left k.left (λ d. h (sym (left_of r.left r.clause) ∙ d)) in
-    ap (λ (b : Bool). b && (eqb (key_of r).kind k.kind
-    && cond (eqb (key_of r).kind 1) (meets (key_of r) k) (same_operands (key_of r) k))) e
+    ap (λ (b : Bool). b && (eqb (kind_number (key_of r).kind) (kind_number k.kind)
+    && cond (eqb (kind_number (key_of r).kind) 1) (meets (key_of r) k)
+    (same_operands (key_of r) k))) e

@@ -11,3 +11,4 @@ pub mod Samples
 pub mod Booking
 pub mod Settled
 pub mod Readings
+pub mod Exits

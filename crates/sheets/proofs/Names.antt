@@ -1,17 +1,20 @@
 -- A sheet's first line, as the cursor has it, against the definition.
 use mathlib.Core.Path.{◌≡◌, refl, sym, ap, ◌∙◌}
-use mathlib.Core.List.{List}
-use mathlib.Core.Bool.{true, false, cond, ◌&&◌}
+use mathlib.Core.List.{List, [], ◌∷◌}
+use mathlib.Core.Bool.{Bool, true, false, not, cond, ◌&&◌}
 use Prim.Native.Nat.{ℕ, ◌+◌, ◌-◌, ◌≤◌, ◌<◌, zero-le}
 use native.Mathlib.Nat.{sub-zero}
 use lib.ListN.{length, take, drop}
 use lib.Dec.{ltb}
 use borrow.Author.Tests.{lt-ltb, le-ltb}
 use Rattle.fields.specs.declared.Cursor.{Cursor}
-use Rattle.fields.specs.Pieces.{pieces, same_bytes}
+use Rattle.std.specs.Prelude.{Some, None}
+use Rattle.sets.proofs.Basics.{clash}
+use Rattle.fields.specs.Pieces.{pieces, is_empty, same_bytes}
 use Rattle.fields.proofs.Pieces.{from_zero}
 use Rattle.fields.proofs.Lines.{line_step, more_left}
-use Rattle.sheets.specs.Items.{Reading, with_names}
+use Rattle.sheets.specs.Items.{Reading, accepted, refused, with_names}
+use Rattle.sheets.specs.Names.{Behind}
 use Rattle.fields.specs.Cursors.{pieces_from, line_at}
 
 module _ {A : Type 0} (bad : Reading A) (names s : List ℕ) (k : List (List ℕ) → Reading A) where
@@ -40,3 +43,30 @@ module _ {A : Type 0} (bad : Reading A) (names s : List ℕ) (k : List (List ℕ
 
     pub names_open : length s ≤ c.end → bad ≡ with_names bad names (pieces 10 s) k
     names_open h = sym (first ∙ rw (le-ltb c.end (length s) h) refl)
+
+-- what is said of the lines behind the names, by where they begin
+module _ {A : Type 0} (bad : Reading A) (names : List ℕ) (k : List (List ℕ) → Reading A) where
+  named : (ps qs : List (List ℕ)) → with_names (refused 0 0) names ps accepted ≡ accepted qs
+      → k qs ≡ with_names bad names ps k
+  named [] qs e = absurd (clash cc)
+  named (h ∷ ps) qs e = go (not (is_empty ps) && same_bytes h names) e
+    where
+      go : (b : Bool) → cond b (accepted ps) (refused 0 0) ≡ accepted qs → k qs ≡ cond b (k ps) bad
+      go true e = let j : qs ≡ ps = cc in ap k j
+      go false e = absurd (clash cc)
+
+  unnamed : (ps : List (List ℕ)) → with_names (refused 0 0) names ps accepted ≡ refused 0 0
+      → bad ≡ with_names bad names ps k
+  unnamed [] e = refl
+  unnamed (h ∷ ps) e = go (not (is_empty ps) && same_bytes h names) e
+    where
+      go : (b : Bool) → cond b (accepted ps) (refused 0 0) ≡ refused 0 0 → bad ≡ cond b (k ps) bad
+      go true e = absurd (clash cc)
+      go false e = refl
+
+  pub behind_some : (s : List ℕ) {at : ℕ} → Behind s names (Some at)
+      → k (pieces_from 10 s at) ≡ with_names bad names (pieces 10 s) k
+  behind_some s {at} h = named (pieces 10 s) (pieces_from 10 s at) h.2
+
+  pub behind_none : (s : List ℕ) → Behind s names None → bad ≡ with_names bad names (pieces 10 s) k
+  behind_none s h = unnamed (pieces 10 s) h

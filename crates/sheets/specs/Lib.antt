@@ -1,5 +1,6 @@
 pub mod Items
 pub mod Refusals
+pub mod LineFaults
 pub mod RuleSheets
 pub mod TokenSheets
 pub mod RefusedLines
@@ -7,3 +8,5 @@ pub mod LinesIn
 pub mod Promises
 pub mod Following
 pub mod Told
+pub mod Names
+pub mod Results

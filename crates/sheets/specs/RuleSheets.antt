@@ -1,10 +1,12 @@
 -- What a rule sheet says: its rules, or the refusal with its line. docs/FORMAT.md, refusals 1 to 7,
 -- and 44.
-use Rattle.std.specs.Prelude.{ℕ, List, [], ◌∷◌, Bool, false, cond, ◌||◌, eqb}
+use Rattle.std.specs.Prelude.{ℕ, List, [], ◌∷◌, Bool, cond, eqb}
+use Rattle.std.specs.List.{list_any}
 use Rattle.grammar.specs.declared.Rule.{Rule}
 use Rattle.grammar.specs.Trees.{Rules}
 use Rattle.fields.specs.Pieces.{pieces}
-use Rattle.lines.specs.declared.RuleLine.{RuleLine}
+use Rattle.std.specs.Prelude.{Result, Ok, Err}
+use Rattle.lines.specs.declared.RuleFault.{RuleFault}
 use Rattle.lines.specs.RuleLines.{rule_line_of}
 use Rattle.lines.specs.declared.Key.{Key}
 use Rattle.lines.specs.Keys.{key_of, same_key_of}
@@ -21,8 +23,7 @@ is_start r = eqb r.left 0
 
 -- some member passes the test
 abbrev pub any_of : {A : Type 0} → (A → Bool) → List A → Bool
-any_of p [] = false
-any_of p (x ∷ xs) = p x || any_of p xs
+any_of = list_any
 
 -- 5: an earlier line has the same left, kind, first and second, under any lay; of kind A, the same
 -- left and a terminal of this one
@@ -30,12 +31,12 @@ abbrev pub fresh_step : Rules → Rule → Step Rule
 fresh_step seen r = cond (any_of (has_key (key_of r)) seen) (stop 5) (next r)
 
 -- 2, 3, 4, 44, 5
-abbrev pub rule_said_of : Rules → RuleLine → Step Rule
-rule_said_of seen RuleLine.Form = stop 2
-rule_said_of seen RuleLine.Range = stop 3
-rule_said_of seen RuleLine.Unfit = stop 4
-rule_said_of seen RuleLine.Reversed = stop 44
-rule_said_of seen (RuleLine.Good r) = fresh_step seen r
+abbrev pub rule_said_of : Rules → Result Rule RuleFault → Step Rule
+rule_said_of seen (Err RuleFault.Form) = stop 2
+rule_said_of seen (Err RuleFault.Range) = stop 3
+rule_said_of seen (Err RuleFault.Unfit) = stop 4
+rule_said_of seen (Err RuleFault.Reversed) = stop 44
+rule_said_of seen (Ok r) = fresh_step seen r
 
 abbrev pub rule_says : Rules → List ℕ → Step Rule
 rule_says seen line = rule_said_of seen (rule_line_of line)

@@ -5,7 +5,8 @@ use Rattle.grammar.specs.declared.Token.{Token}
 use Rattle.grammar.specs.Layout.{Word, last}
 use Rattle.grammar.proofs.Positions.{after?}
 use Rattle.fields.specs.Pieces.{pieces}
-use Rattle.lines.specs.declared.TokenLine.{TokenLine}
+use Rattle.std.specs.Prelude.{Result, Ok, Err}
+use Rattle.lines.specs.declared.TokenFault.{TokenFault}
 use Rattle.lines.specs.TokenLines.{token_line}
 use Rattle.sheets.specs.Items.{Reading, refused, Step, next, stop, line_step_of, items_from}
 use Rattle.sheets.specs.Items.{with_names}
@@ -21,11 +22,11 @@ order_step [] t = next t
 order_step (a ∷ w) t = in_order (after? (last a w) t) t
 
 -- 12, 13, 47, 15
-abbrev pub token_said_of : Word → TokenLine → Step Token
-token_said_of seen TokenLine.Form = stop 12
-token_said_of seen TokenLine.Range = stop 13
-token_said_of seen TokenLine.Width = stop 47
-token_said_of seen (TokenLine.Good t) = order_step seen t
+abbrev pub token_said_of : Word → Result Token TokenFault → Step Token
+token_said_of seen (Err TokenFault.Form) = stop 12
+token_said_of seen (Err TokenFault.Range) = stop 13
+token_said_of seen (Err TokenFault.Width) = stop 47
+token_said_of seen (Ok t) = order_step seen t
 
 abbrev pub token_says : Bool → Word → List ℕ → Step Token
 token_says wide seen line = token_said_of seen (token_line wide line)

@@ -2,27 +2,30 @@
 // line; and the line that a refusal names.
 #![tactic(auto)]
 
-ghost use Rattle.std.specs.Prelude.{◌≡◌, [], ◌≤◌, ◌<◌, length, take, ltb};
-ghost use Rattle.grammar.specs.Content.{rules_of as rulesOf, Formed};
+ghost use Rattle.std.specs.Prelude.{◌≡◌, [], ◌≤◌, ◌<◌, length, ltb};
+ghost use Rattle.grammar.specs.Content.{rules_of, Formed};
 ghost use Rattle.lengths.specs.Indexes.{Exact};
 ghost use Rattle.lengths.specs.Books.{Booked};
 ghost use Rattle.lines.specs.Turns.{turn_of};
 ghost use Rattle.fields.specs.Pieces.{pieces};
 ghost use Rattle.sheets.specs.Refusals.{number_of};
-ghost use Rattle.sheets.specs.Items.{accepted, refused, step_at_of, items_from};
+ghost use Rattle.sheets.specs.LineFaults.{rule_fault, token_fault};
+ghost use Rattle.sheets.specs.Items.{accepted, step_at_of, items_from};
 ghost use Rattle.sheets.specs.RuleSheets.{has_key, any_of, is_start, fresh_step, rule_says};
 ghost use Rattle.sheets.specs.RuleSheets.{finish, rules_from, rule_sheet};
 ghost use Rattle.sheets.specs.Following.{after};
 ghost use Rattle.sheets.specs.TokenSheets.{order_step, token_says, token_step, token_sheet};
 ghost use Rattle.sheets.specs.RefusedLines.{LinePart, Hands};
 ghost use Rattle.sheets.specs.LinesIn.{LineIn, held_of};
-ghost use Rattle.sheets.specs.Promises.{as_rule_step, as_token_step, Adds, RulesRead, TokensRead};
+ghost use Rattle.sheets.specs.Names.{Behind};
+ghost use Rattle.sheets.specs.Results.{verdict_answer};
+ghost use Rattle.sheets.specs.Promises.{as_item, as_step, Adds, RulesRead, TokensRead};
 ghost use Rattle.fields.specs.Cursors.{pieces_from, bytes_left};
 
 use fields::Cursor;
-use grammar::{Column, Grammar, Line, Rule, Sentence, Token, Width, leaves_free, line_before};
-use lengths::{Book, Index, append, no_book, no_lengths, no_rules};
-use lines::{Key, RuleLine, TokenLine, Turn};
+use grammar::{Column, Line, Rule, Sentence, Token, Verdict, Width, leaves_free, line_before};
+use lengths::{Book, append, no_book};
+use lines::{Key, RuleFault, TokenFault, Turn};
 
 // The refusals, in the order in which they are looked for; `number_of` in specs/ has
 // their numbers. Many are given by later crates.
@@ -58,37 +61,66 @@ pub enum Fault {
 }
 
 // The number of a refusal.
-pub fn fault_number(f: Fault) -> u64
-    ensures { result ≡ number_of f }
-{
-    match f {
-        Fault::RuleNames => 1,
-        Fault::RuleMany => 6,
-        Fault::RuleForm => 2,
-        Fault::RuleRange => 3,
-        Fault::RuleLay => 4,
-        Fault::RuleReversed => 44,
-        Fault::RuleTwice => 5,
-        Fault::NoStart => 7,
-        Fault::ClauseForm => 41,
-        Fault::ClauseDeep => 42,
-        Fault::ClauseMany => 43,
-        Fault::TokenNames => 11,
-        Fault::TokenMany => 14,
-        Fault::TokenForm => 12,
-        Fault::TokenRange => 13,
-        Fault::TokenWidth => 47,
-        Fault::TokenOrder => 15,
-        Fault::RangeEnds => 48,
-        Fault::ManyChoices => 49,
-        Fault::Rights => 50,
-        Fault::NoRight => 51,
-        Fault::BadBound => 23,
-        Fault::ManyCandidates => 24,
-        Fault::BadRacks => 45,
-        Fault::BadShare => 46,
-        Fault::FewWords => 21,
-        Fault::FewRows => 22,
+impl From<Fault> for u64 {
+    ghost from_gives = { λ f n. n ≡ number_of f };
+
+    fn from(f: Fault) -> u64 {
+        match f {
+            Fault::RuleNames => 1,
+            Fault::RuleMany => 6,
+            Fault::RuleForm => 2,
+            Fault::RuleRange => 3,
+            Fault::RuleLay => 4,
+            Fault::RuleReversed => 44,
+            Fault::RuleTwice => 5,
+            Fault::NoStart => 7,
+            Fault::ClauseForm => 41,
+            Fault::ClauseDeep => 42,
+            Fault::ClauseMany => 43,
+            Fault::TokenNames => 11,
+            Fault::TokenMany => 14,
+            Fault::TokenForm => 12,
+            Fault::TokenRange => 13,
+            Fault::TokenWidth => 47,
+            Fault::TokenOrder => 15,
+            Fault::RangeEnds => 48,
+            Fault::ManyChoices => 49,
+            Fault::Rights => 50,
+            Fault::NoRight => 51,
+            Fault::BadBound => 23,
+            Fault::ManyCandidates => 24,
+            Fault::BadRacks => 45,
+            Fault::BadShare => 46,
+            Fault::FewWords => 21,
+            Fault::FewRows => 22,
+        }
+    }
+}
+
+// What is wrong with a rule line, as a refusal.
+impl From<RuleFault> for Fault {
+    ghost from_gives = { λ e f. f ≡ rule_fault e };
+
+    fn from(e: RuleFault) -> Fault {
+        match e {
+            RuleFault::Form => Fault::RuleForm,
+            RuleFault::Range => Fault::RuleRange,
+            RuleFault::Unfit => Fault::RuleLay,
+            RuleFault::Reversed => Fault::RuleReversed,
+        }
+    }
+}
+
+// What is wrong with a token line, as a refusal.
+impl From<TokenFault> for Fault {
+    ghost from_gives = { λ e f. f ≡ token_fault e };
+
+    fn from(e: TokenFault) -> Fault {
+        match e {
+            TokenFault::Form => Fault::TokenForm,
+            TokenFault::Range => Fault::TokenRange,
+            TokenFault::Width => Fault::TokenWidth,
+        }
     }
 }
 
@@ -104,41 +136,33 @@ pub enum Answer {
     Refused(Fault),
 }
 
-// A refusal gives the line in its sheet, counted from 1, or 0.
+// A refusal, with the line in its sheet, counted from 1, or 0.
 #[derive(Clone, Copy)]
-pub enum Outcome {
-    Accepted,
-    Refused(Fault, usize),
+pub struct Refusal {
+    pub fault: Fault,
+    pub line: usize,
 }
 
-// The grammar of a rule sheet, with its index; it has no rules where the sheet is refused.
-#[derive(Clone, Copy)]
-pub struct GrammarRead {
-    pub outcome: Outcome,
-    pub grammar: Grammar,
-    pub index: Index,
+// A refusal that names no line.
+impl From<Fault> for Refusal {
+    ghost from_gives = { λ f e. e ≡ record { fault = f; line = 0 } };
+
+    fn from(f: Fault) -> Refusal {
+        Refusal { fault: f, line: 0 }
+    }
 }
 
-// The sentence of a token sheet; it has no tokens where the sheet is refused.
-#[derive(Clone, Copy)]
-pub struct SentenceRead {
-    pub outcome: Outcome,
-    pub sentence: Sentence,
-}
+// The answer that a verdict is.
+impl From<Verdict> for Answer {
+    ghost from_gives = { λ v a. a ≡ verdict_answer v };
 
-// What a line gives: one more item, a refusal, or the sheet's end.
-#[derive(Clone, Copy)]
-pub enum RuleStep {
-    Next(Rule),
-    Stop(Fault),
-    End,
-}
-
-#[derive(Clone, Copy)]
-pub enum TokenStep {
-    Next(Token),
-    Stop(Fault),
-    End,
+    fn from(v: Verdict) -> Answer {
+        match v {
+            Verdict::None => Answer::None,
+            Verdict::One => Answer::One,
+            Verdict::Two => Answer::Two,
+        }
+    }
 }
 
 // Has the rule the key? Most have another left.
@@ -151,184 +175,135 @@ fn has_key(x: Rule, key: Key) -> bool
     lines::same_key(lines::key_of(x), key)
 }
 
-// Has one of the first n rules the key?
-fn earlier(rules: [Rule; 128], n: usize, key: Key) -> bool
-    requires { n ≤ 128 }
-    ensures { result ≡ any_of (has_key key) (take n rules) }
+// Has one of the rules the key?
+fn earlier(rules: &[Rule], key: Key) -> bool
+    ensures { result ≡ any_of (has_key key) rules.now }
 {
-    let mut i = 0;
-    while i < n {
-        let x = rules[i];
-        if has_key(x, key) {
-            return true;
-        }
-        i += 1;
-    }
-    false
+    rules.iter().any(|x| has_key(*x, key))
 }
 
-// Has one of the first n rules nonterminal 0 at the left?
-fn has_start(rules: [Rule; 128], n: usize) -> bool
-    requires { n ≤ 128 }
-    ensures { result ≡ any_of is_start (take n rules) }
+// Has one of the rules nonterminal 0 at the left?
+fn has_start(rules: &[Rule]) -> bool
+    ensures { result ≡ any_of is_start rules.now }
 {
-    let mut i = 0;
-    while i < n {
-        let x = rules[i];
-        if x.left == 0 {
-            return true;
-        }
-        i += 1;
-    }
-    false
+    rules.iter().any(|x| x.left == 0)
 }
 
 // A rule that no earlier line has, under any lay.
-fn fresh(rules: [Rule; 128], n: usize, r: Rule) -> RuleStep
-    requires { n ≤ 128 }
-    ensures { as_rule_step result ≡ fresh_step (take n rules) r }
+fn fresh(rules: &[Rule], r: Rule) -> Result<Rule, Fault>
+    ensures { as_item result ≡ fresh_step rules.now r }
 {
-    if earlier(rules, n, lines::key_of(r)) {
-        return RuleStep::Stop(Fault::RuleTwice);
+    if earlier(rules, lines::key_of(r)) {
+        return Err(Fault::RuleTwice);
     }
-    RuleStep::Next(r)
+    Ok(r)
 }
 
-// What a whole line says after the first n rules.
-fn rule_said(s: &[u8], c: Cursor, rules: [Rule; 128], n: usize) -> RuleStep
-    requires { (c.at ≤ c.end) × (c.end ≤ length s.now) × (n ≤ 128) }
-    ensures { as_rule_step result ≡ rule_says (take n rules) (bytes_left s.now c) }
+// What a whole line says after the rules.
+fn rule_said(s: &[u8], c: Cursor, rules: &[Rule]) -> Result<Rule, Fault>
+    requires { (c.at ≤ c.end) × (c.end ≤ length s.now) }
+    ensures { as_item result ≡ rule_says rules.now (bytes_left s.now c) }
 {
-    match lines::rule_line(s, c) {
-        RuleLine::Form => RuleStep::Stop(Fault::RuleForm),
-        RuleLine::Range => RuleStep::Stop(Fault::RuleRange),
-        RuleLine::Unfit => RuleStep::Stop(Fault::RuleLay),
-        RuleLine::Reversed => RuleStep::Stop(Fault::RuleReversed),
-        RuleLine::Good(r) => fresh(rules, n, r),
-    }
+    let r = lines::rule_line(s, c)?;
+    fresh(rules, r)
 }
 
-// What the cursor's line gives after the first n rules.
-fn rule_step(s: &[u8], c: Cursor, rules: [Rule; 128], n: usize) -> RuleStep
-    requires { (c.at ≤ c.end) × (c.end ≤ length s.now) × (n ≤ 128) }
-    ensures { as_rule_step result ≡ step_at_of 6 2
-        (rule_says (take n rules) (bytes_left s.now c))
-        (turn_of 128 n (bytes_left s.now c)
+// What the cursor's line gives after the rules: one more, or the sheet's end.
+fn rule_step(s: &[u8], c: Cursor, rules: &[Rule]) -> Result<Option<Rule>, Fault>
+    requires { (c.at ≤ c.end) × (c.end ≤ length s.now) }
+    ensures { as_step result ≡ step_at_of 6 2
+        (rule_says rules.now (bytes_left s.now c))
+        (turn_of 128 (length rules.now) (bytes_left s.now c)
         (ltb c.end (length s.now))) }
 {
-    match lines::turn_at(s, c, n, 128) {
-        Turn::End => RuleStep::End,
-        Turn::Many => RuleStep::Stop(Fault::RuleMany),
-        Turn::Open => RuleStep::Stop(Fault::RuleForm),
-        Turn::Whole => rule_said(s, c, rules, n),
-    }
-}
-
-// A refused rule sheet.
-pub fn refuse_rules(rules: [Rule; 128], f: Fault, line: usize) -> GrammarRead
-    ensures { RulesRead result (refused (number_of f) line) }
-{
-    let index = no_lengths();
-    GrammarRead {
-        outcome: Outcome::Refused(f, line),
-        grammar: Grammar { rules, count: 0 },
-        index,
+    match lines::turn_at(s, c, rules.len(), 128) {
+        Turn::End => Ok(None),
+        Turn::Many => Err(Fault::RuleMany),
+        Turn::Open => Err(Fault::RuleForm),
+        Turn::Whole => Ok(Some(rule_said(s, c, rules)?)),
     }
 }
 
 // The end of a rule sheet, with the index of its rules: refusal 7.
-pub fn finished(g: Grammar, index: Index) -> GrammarRead
-    requires { Formed g × Exact (rulesOf g) index }
-    ensures { RulesRead result (finish (accepted (rulesOf g))) }
+pub fn finished(book: Book) -> Result<Book, Refusal>
+    requires { Formed book.grammar × Exact (rules_of book.grammar) book.index }
+    ensures { RulesRead result (finish (accepted (rules_of book.grammar))) }
 {
-    let rules = g.rules;
-    let n = g.count;
-    if has_start(rules, n) {
-        return GrammarRead {
-            outcome: Outcome::Accepted,
-            grammar: g,
-            index,
-        };
+    if has_start(&book.grammar.rules[..book.grammar.count]) {
+        return Ok(book);
     }
-    refuse_rules(rules, Fault::NoStart, 0)
-}
-
-// What a line gives, and the book after it.
-#[derive(Clone, Copy)]
-pub struct Added {
-    pub book: Book,
-    pub step: RuleStep,
+    Err(Refusal {
+        fault: Fault::NoStart,
+        line: 0,
+    })
 }
 
 // The cursor's line after the rules of a book: its rule is appended, and a line that gives none
 // leaves the book as it was.
-fn add_line(s: &[u8], c: Cursor, book: Book) -> Added
-    requires { (c.at ≤ c.end) × (c.end ≤ length s.now) × Booked book }
-    ensures step_value { as_rule_step result.step ≡ step_at_of 6 2
-        (rule_says (rulesOf book.grammar) (bytes_left s.now c))
-        (turn_of 128 book.grammar.count (bytes_left s.now c)
+fn add_line(s: &[u8], c: Cursor, book: &mut Book) -> Result<Option<Rule>, Fault>
+    requires { (c.at ≤ c.end) × (c.end ≤ length s.now) × Booked book.old }
+    ensures step_value { as_step result ≡ step_at_of 6 2
+        (rule_says (rules_of book.old.grammar) (bytes_left s.now c))
+        (turn_of 128 book.old.grammar.count (bytes_left s.now c)
         (ltb c.end (length s.now))) }
-    ensures adds { Adds book result.step result.book }
+    ensures adds { Adds book.old result book.new }
 {
-    let g = book.grammar;
-    let rules = g.rules;
-    let n = g.count;
-    let step = rule_step(s, c, rules, n);
-    match step {
-        RuleStep::Next(r) => {
-            let b = append(book, r);
-            Added { step, book: b }
-        }
-        RuleStep::Stop(_) => Added { step, book },
-        RuleStep::End => Added { step, book },
+    let step = rule_step(s, c, &book.grammar.rules[..book.grammar.count])?;
+    if let Some(r) = step {
+        *book = append(*book, r);
     }
+    Ok(step)
 }
 
 // The rule lines from a place on.
-fn rules_from(s: &[u8], start: usize) -> GrammarRead
+fn rules_from(s: &[u8], start: usize) -> Result<Book, Refusal>
     requires { start ≤ length s.now }
     ensures { RulesRead result (rules_from (pieces_from 10 s.now start)) }
 {
     let mut book = no_book();
     let mut at = start;
+    // Kept: no range counts the turns, since a line's end alone says where the next begins.
     loop {
         let c = Cursor::line(s, at);
-        let a = add_line(s, c, book);
-        let step = a.step;
-        let b = a.book;
-        match step {
-            RuleStep::Next(_) => {
-                book = b;
+        match add_line(s, c, &mut book) {
+            Ok(Some(_)) => {
                 at = c.end + 1;
             }
-            RuleStep::Stop(f) => {
-                let g = b.grammar;
-                let n = g.count;
-                let rules = g.rules;
-                return refuse_rules(rules, f, n + 2);
+            Ok(None) => {
+                return finished(book);
             }
-            RuleStep::End => {
-                let g = b.grammar;
-                let x = b.index;
-                return finished(g, x);
+            Err(fault) => {
+                let line = book.grammar.count + 2;
+                return Err(Refusal { fault, line });
             }
         }
     }
 }
 
-// The rule sheet: its rules, or the first refusal in their order with its line.
-pub fn read_rules(s: &[u8]) -> GrammarRead
+// Where the lines behind the names begin, if the first line is these names.
+pub fn behind_names(s: &[u8], names: &[u8]) -> Option<usize>
+    ensures { Behind s.now names.now result }
+{
+    let end = Cursor::line(s, 0).end;
+    if end < s.len() {
+        if &s[..end] == names {
+            return Some(end + 1);
+        }
+    }
+    None
+}
+
+// The rule sheet: its rules with their index, or the first refusal in their order with its line.
+pub fn read_rules(s: &[u8]) -> Result<Book, Refusal>
     ensures { RulesRead result (rule_sheet s.now) }
 {
-    let c = Cursor::line(s, 0);
-    let end = c.end;
-    if end < s.len() {
-        if fields::same(&s[..end], b"left kind first second lay") {
-            return rules_from(s, end + 1);
-        }
-        return refuse_rules(no_rules(), Fault::RuleNames, 1);
+    match behind_names(s, b"left kind first second lay") {
+        Some(at) => rules_from(s, at),
+        None => Err(Refusal {
+            fault: Fault::RuleNames,
+            line: 1,
+        }),
     }
-    refuse_rules(no_rules(), Fault::RuleNames, 1)
 }
 
 // A later line, or the same line and a column at or past the column plus width.
@@ -349,49 +324,42 @@ pub fn comes_after(a: Token, b: Token) -> bool
     leaves_free(c, w, d)
 }
 
-// A token that comes after the last of the first n.
-fn ordered(tokens: [Token; 64], n: usize, t: Token) -> TokenStep
-    requires { n ≤ 64 }
-    ensures { as_token_step result ≡ order_step (take n tokens) t }
+// A token that comes after the last of the others.
+fn ordered(tokens: &[Token], t: Token) -> Result<Token, Fault>
+    ensures { as_item result ≡ order_step tokens.now t }
 {
+    let n = tokens.len();
     if n == 0 {
-        return TokenStep::Next(t);
+        return Ok(t);
     }
-    let i = n - 1;
-    let last = tokens[i];
-    if comes_after(last, t) {
-        return TokenStep::Next(t);
+    if comes_after(tokens[n - 1], t) {
+        return Ok(t);
     }
-    TokenStep::Stop(Fault::TokenOrder)
+    Err(Fault::TokenOrder)
 }
 
-// What a whole line says after the first n tokens.
-fn token_said(s: &[u8], c: Cursor, tokens: [Token; 64], n: usize, wide: bool) -> TokenStep
-    requires { (c.at ≤ c.end) × (c.end ≤ length s.now) × (n ≤ 64) }
-    ensures { as_token_step result ≡ token_says wide (take n tokens)
-        (bytes_left s.now c) }
+// What a whole line says after the tokens.
+fn token_said(s: &[u8], c: Cursor, tokens: &[Token], wide: bool) -> Result<Token, Fault>
+    requires { (c.at ≤ c.end) × (c.end ≤ length s.now) }
+    ensures { as_item result ≡ token_says wide tokens.now (bytes_left s.now c) }
 {
-    match lines::token_line(s, c, wide) {
-        TokenLine::Form => TokenStep::Stop(Fault::TokenForm),
-        TokenLine::Range => TokenStep::Stop(Fault::TokenRange),
-        TokenLine::Width => TokenStep::Stop(Fault::TokenWidth),
-        TokenLine::Good(t) => ordered(tokens, n, t),
-    }
+    let t = lines::token_line(s, c, wide)?;
+    ordered(tokens, t)
 }
 
-// What the cursor's line gives after the first n tokens.
-fn token_step(s: &[u8], c: Cursor, tokens: [Token; 64], n: usize, wide: bool) -> TokenStep
-    requires { (c.at ≤ c.end) × (c.end ≤ length s.now) × (n ≤ 64) }
-    ensures { as_token_step result ≡ step_at_of 14 12
-        (token_says wide (take n tokens) (bytes_left s.now c))
-        (turn_of 64 n (bytes_left s.now c)
+// What the cursor's line gives after the tokens: one more, or the sheet's end.
+fn token_step(s: &[u8], c: Cursor, tokens: &[Token], wide: bool) -> Result<Option<Token>, Fault>
+    requires { (c.at ≤ c.end) × (c.end ≤ length s.now) }
+    ensures { as_step result ≡ step_at_of 14 12
+        (token_says wide tokens.now (bytes_left s.now c))
+        (turn_of 64 (length tokens.now) (bytes_left s.now c)
         (ltb c.end (length s.now))) }
 {
-    match lines::turn_at(s, c, n, 64) {
-        Turn::End => TokenStep::End,
-        Turn::Many => TokenStep::Stop(Fault::TokenMany),
-        Turn::Open => TokenStep::Stop(Fault::TokenForm),
-        Turn::Whole => token_said(s, c, tokens, n, wide),
+    match lines::turn_at(s, c, tokens.len(), 64) {
+        Turn::End => Ok(None),
+        Turn::Many => Err(Fault::TokenMany),
+        Turn::Open => Err(Fault::TokenForm),
+        Turn::Whole => Ok(Some(token_said(s, c, tokens, wide)?)),
     }
 }
 
@@ -404,18 +372,8 @@ fn no_tokens() -> [Token; 64] {
     }; 64]
 }
 
-// A refused token sheet.
-fn refuse_tokens(tokens: [Token; 64], f: Fault, line: usize) -> SentenceRead
-    ensures { TokensRead result (refused (number_of f) line) }
-{
-    SentenceRead {
-        outcome: Outcome::Refused(f, line),
-        sentence: Sentence { tokens, count: 0 },
-    }
-}
-
 // The token lines from a place on, with widths if `wide` says so.
-fn tokens_from(s: &[u8], start: usize, wide: bool) -> SentenceRead
+fn tokens_from(s: &[u8], start: usize, wide: bool) -> Result<Sentence, Refusal>
     requires { start ≤ length s.now }
     ensures { TokensRead result (items_from (token_step wide) []
         (pieces_from 10 s.now start)) }
@@ -423,43 +381,39 @@ fn tokens_from(s: &[u8], start: usize, wide: bool) -> SentenceRead
     let mut tokens = no_tokens();
     let mut n: usize = 0;
     let mut at = start;
+    // Kept: no range counts the turns, since a line's end alone says where the next begins.
     loop {
         let c = Cursor::line(s, at);
-        match token_step(s, c, tokens, n, wide) {
-            TokenStep::Next(t) => {
+        match token_step(s, c, &tokens[..n], wide) {
+            Ok(Some(t)) => {
                 tokens[n] = t;
                 n += 1;
                 at = c.end + 1;
             }
-            TokenStep::Stop(f) => {
-                return refuse_tokens(tokens, f, n + 2);
+            Ok(None) => {
+                return Ok(Sentence { tokens, count: n });
             }
-            TokenStep::End => {
-                return SentenceRead {
-                    outcome: Outcome::Accepted,
-                    sentence: Sentence { tokens, count: n },
-                };
+            Err(fault) => {
+                return Err(Refusal { fault, line: n + 2 });
             }
         }
     }
 }
 
 // The token sheet: its tokens, or the first refusal in their order with its line.
-pub fn read_tokens(s: &[u8]) -> SentenceRead
+pub fn read_tokens(s: &[u8]) -> Result<Sentence, Refusal>
     ensures { TokensRead result (token_sheet s.now) }
 {
-    let c = Cursor::line(s, 0);
-    let end = c.end;
-    if end < s.len() {
-        if fields::same(&s[..end], b"term line col") {
-            return tokens_from(s, end + 1, false);
-        }
-        if fields::same(&s[..end], b"term line col width") {
-            return tokens_from(s, end + 1, true);
-        }
-        return refuse_tokens(no_tokens(), Fault::TokenNames, 1);
+    if let Some(at) = behind_names(s, b"term line col") {
+        return tokens_from(s, at, false);
     }
-    refuse_tokens(no_tokens(), Fault::TokenNames, 1)
+    if let Some(at) = behind_names(s, b"term line col width") {
+        return tokens_from(s, at, true);
+    }
+    Err(Refusal {
+        fault: Fault::TokenNames,
+        line: 1,
+    })
 }
 
 // The line of the sheet with n lines before it, without its byte 10.
@@ -468,33 +422,35 @@ fn line_after<'a>(s: &'a [u8], n: usize) -> &'a [u8]
     ensures { LinePart s.entry n result }
 {
     let mut at = 0;
-    let mut left = n;
-    while 0 < left {
-        let c = Cursor::line(s, at);
-        at = c.end + 1;
-        left -= 1;
+    for _ in 0..n {
+        at = Cursor::line(s, at).end + 1;
     }
     Cursor::line(s, at).bytes(s)
 }
 
-// The refused line of a call with two sheets that were read so: as a part of the sheet that holds
-// it; with no such line, the first zero bytes of the sheet with the rules.
-pub fn refused_read<'a>(o: Outcome, p: Outcome, rules: &'a [u8], tokens: &'a [u8]) -> &'a [u8]
+// The refused line of a call with two sheets that were refused so: as a part of the sheet that
+// holds it; with no such line, the first zero bytes of the sheet with the rules.
+pub fn refused_read<'a>(
+    o: Option<Refusal>,
+    p: Option<Refusal>,
+    rules: &'a [u8],
+    tokens: &'a [u8],
+) -> &'a [u8]
     requires line_in { LineIn rules.now o }
     requires line_in_2 { LineIn tokens.now p }
     ensures { Hands rules.entry tokens.entry result (held_of o p) }
 {
-    if let Outcome::Refused(_, l) = o {
-        if l == 0 {
+    if let Some(e) = o {
+        if e.line == 0 {
             return &rules[..0];
         }
-        return line_after(rules, l - 1);
+        return line_after(rules, e.line - 1);
     }
-    if let Outcome::Refused(_, m) = p {
-        if m == 0 {
+    if let Some(e) = p {
+        if e.line == 0 {
             return &rules[..0];
         }
-        return line_after(tokens, m - 1);
+        return line_after(tokens, e.line - 1);
     }
     &rules[..0]
 }

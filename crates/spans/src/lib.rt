@@ -28,11 +28,7 @@ pub fn clear(words: &mut [u64], n: usize)
     requires { n ≤ length words.old }
     ensures { Cleared words.old words.new n }
 {
-    let mut i = 0;
-    while i < n {
-        words[i] = 0;
-        i += 1;
-    }
+    words[..n].fill(0);
 }
 
 // Which pair of the span sheet of `n` tokens is that of the span of `len` tokens from `start` on.

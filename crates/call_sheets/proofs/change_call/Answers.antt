@@ -8,15 +8,12 @@ use native.Mathlib.Omega.{arith}
 use lib.ListN.{length, drop, length-drop}
 use lib.Seq.{length-take-le}
 use Rattle.fields.specs.declared.Cursor.{Cursor}
-use Rattle.fields.specs.declared.NumberField.{NumberField}
 use Rattle.fields.specs.Pieces.{pieces}
 use Rattle.fields.specs.Words.{numeral_of}
-use Rattle.fields.specs.Answers.{number_field_of}
+use Rattle.std.specs.Prelude.{Option, Some, None}
 use Rattle.fields.specs.Cursors.{bytes_left, fields_left, read_field}
-use Rattle.fields.proofs.Fields.{left_none}
+use Rattle.fields.proofs.Fields.{with_good, with_bad, left_none}
 use Rattle.fields.proofs.Lines.{fields_of}
-use Rattle.fields.proofs.Three.{number_good, number_bad}
-use Rattle.call_sheets.specs.declared.Call.{Call}
 use Rattle.call_sheets.specs.declared.TwoSheets.TheVariants as TwoSheets
 use Rattle.call_sheets.specs.CallSheets.{on_two}
 use Rattle.call_sheets.specs.CallSheets.{change_call_of, change_second, change_end}
@@ -25,14 +22,14 @@ use Rattle.call_sheets.proofs.Laws.{end_not, end_one, left_bad}
 use Rattle.call_sheets.proofs.change_call.Goals as goal
 
 -- what the method for numbers answers at a cursor
-abbrev read : List ℕ → Cursor → NumberField
-read s c = number_field_of (read_field numeral_of c (fields_left s c))
+abbrev read : List ℕ → Cursor → Option (ℕ × Cursor)
+read s c = read_field numeral_of c (fields_left s c)
 
 -- what is left to say after each number
-stage1 : (s : List ℕ) (a : Cursor) (u : ℕ) (d : Cursor) → NumberField.Is u d ≡ read s a
+stage1 : (s : List ℕ) (a : Cursor) (u : ℕ) (d : Cursor) → Some (u, d) ≡ read s a
     → (change_call_of (length s) (fields_left s a)
     ≡ change_second (length s) u (fields_left s d)) × (d.end ≡ a.end)
-stage1 s a u d p = number_good Call.Not (change_second (length s)) s a u d p
+stage1 s a u d p = with_good None numeral_of (change_second (length s)) s a d u p
 
 -- after both
 record Both (s : List ℕ) (a : Cursor) (u r : ℕ) (e : Cursor) : Type 0 where
@@ -41,15 +38,15 @@ record Both (s : List ℕ) (a : Cursor) (u r : ℕ) (e : Cursor) : Type 0 where
   pub ends : e.end ≡ a.end
 
 stage2 : (s : List ℕ) (a : Cursor) (u : ℕ) (d : Cursor) (r : ℕ) (e : Cursor)
-    → NumberField.Is u d ≡ read s a → NumberField.Is r e ≡ read s d → Both s a u r e
+    → Some (u, d) ≡ read s a → Some (r, e) ≡ read s d → Both s a u r e
 stage2 s a u d r e p q =
     let m = stage1 s a u d p in
-    let l = number_good Call.Not (change_end (length s) u) s d r e q in
+    let l = with_good None numeral_of (change_end (length s) u) s d e r q in
     record { says = m.0 ∙ l.0; ends = l.1 ∙ m.1 }
 
 -- where the cursor is behind the line, no call is named
 none_left : (s : List ℕ) (a : Cursor) (u r : ℕ) (e : Cursor) → a.end + 1 ≡ length s
-    → Both s a u r e → e.end < e.at → Call.Not ≡ change_call_of (length s) (fields_left s a)
+    → Both s a u r e → e.end < e.at → None ≡ change_call_of (length s) (fields_left s a)
 none_left s a u r e h b k =
     sym (b.says ∙ ap (λ (fs : List (List ℕ)). change_end (length s) u r fs)
     (left_none s e (omega (arith, b.ends)) k))
@@ -78,56 +75,47 @@ one_left s a u r e h b k o =
 -- or not
 not_left : (s : List ℕ) (a : Cursor) (u r : ℕ) (e : Cursor) → a.end + 1 ≡ length s
     → Both s a u r e → e.at ≤ e.end → one_field_of (bytes_left s e) ≡ false
-    → Call.Not ≡ change_call_of (length s) (fields_left s a)
+    → None ≡ change_call_of (length s) (fields_left s a)
 not_left s a u r e h b k o =
     let bytes = bytes_left s e in
     sym (b.says ∙ left s a u r e h b k ∙ end_not (length s) u r (pieces 32 bytes)
     (left_bad bytes o))
 
-pub returns-in_default : goal.returns-in_default
-returns-in_default c =
+pub read-requires-2 : goal.read-requires-2
+read-requires-2 c =
     let a = c.args in
-    sym (number_bad Call.Not (change_second (length a.s.now)) a.s.now a.c
-    (sym c.in_default.is ∙ c.number.ensures))
+    omega (arith, (stage1 a.s.now a.c _ _ c.in_ok-u.ensures).1, c.requires)
 
-pub number-requires-2 : goal.number-requires-2
-number-requires-2 c =
+pub returns-in_err-r : goal.returns-in_err-r
+returns-in_err-r c =
     let a = c.args in
-    omega (arith, (stage1 a.s.now a.c _ _ (sym c.in-Is.is ∙ c.number.ensures)).1, c.requires)
-
-pub returns-in_default-number : goal.returns-in_default-number
-returns-in_default-number c =
-    let a = c.args in
-    sym ((stage1 a.s.now a.c _ _ (sym c.in-Is.is ∙ c.number.ensures)).0
-    ∙ number_bad Call.Not (change_end (length a.s.now) c.in-Is.u) a.s.now c.in-Is.d
-    (sym c.in_default-number.is ∙ c.number-2.ensures))
+    rw c.from_residual-in_err-r.ensures
+    (sym ((stage1 a.s.now a.c _ _ c.in_ok-u.ensures).0
+    ∙ with_bad None numeral_of (change_end (length a.s.now) c.in_ok-u.u) c.in_ok-u.d
+    (fields_left a.s.now c.in_ok-u.d) c.in_err-r.ensures))
 
 pub returns-then-end-at : goal.returns-then-end-at
 returns-then-end-at c =
     let a = c.args in
-    let b = stage2 a.s.now a.c _ _ _ _ (sym c.in-Is.is ∙ c.number.ensures)
-    (sym c.in-Is-number.is ∙ c.number-2.ensures) in
+    let b = stage2 a.s.now a.c _ _ _ _ c.in_ok-u.ensures c.in_ok-r.ensures in
     none_left a.s.now a.c _ _ _ c.requires b c.if-end-at.true
 
 pub slice_bounds-one_field-end : goal.slice_bounds-one_field-end
 slice_bounds-one_field-end c =
     let a = c.args in
-    let b = stage2 a.s.now a.c _ _ _ _ (sym c.in-Is.is ∙ c.number.ensures)
-    (sym c.in-Is-number.is ∙ c.number-2.ensures) in
+    let b = stage2 a.s.now a.c _ _ _ _ c.in_ok-u.ensures c.in_ok-r.ensures in
     omega (arith, b.ends, c.requires)
 
-pub returns-then-one_field : goal.returns-then-one_field
-returns-then-one_field c =
+pub returns-then-not-one_field : goal.returns-then-not-one_field
+returns-then-not-one_field c =
     let a = c.args in
-    let b = stage2 a.s.now a.c _ _ _ _ (sym c.in-Is.is ∙ c.number.ensures)
-    (sym c.in-Is-number.is ∙ c.number-2.ensures) in
-    one_left a.s.now a.c _ _ _ c.requires b c.if-end-at.false
-    (sym c.one_field.ensures ∙ c.if-one_field.true)
+    let b = stage2 a.s.now a.c _ _ _ _ c.in_ok-u.ensures c.in_ok-r.ensures in
+    not_left a.s.now a.c _ _ _ c.requires b c.if-end-at.false
+    (sym c.one_field.ensures ∙ c.if-not-one_field.true)
 
 pub returns : goal.returns
 returns c =
     let a = c.args in
-    let b = stage2 a.s.now a.c _ _ _ _ (sym c.in-Is.is ∙ c.number.ensures)
-    (sym c.in-Is-number.is ∙ c.number-2.ensures) in
-    not_left a.s.now a.c _ _ _ c.requires b c.if-end-at.false
-    (sym c.one_field.ensures ∙ c.if-one_field.false)
+    let b = stage2 a.s.now a.c _ _ _ _ c.in_ok-u.ensures c.in_ok-r.ensures in
+    one_left a.s.now a.c _ _ _ c.requires b c.if-end-at.false
+    (sym c.one_field.ensures ∙ c.if-not-one_field.false)

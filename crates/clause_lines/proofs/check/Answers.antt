@@ -22,17 +22,17 @@ returns-then-is_end c =
 pub step-w-requires : goal.step-w-requires
 step-w-requires c = record {
   deep_bound = omega (arith, c.loop-x.invariant.few, c.loop-x.invariant.within);
-  l_value = sym c.fits.ensures ∙ c.if-fits.true;
+  l_value = sym c.fits.ensures ∙ c.if-not-fits.false;
 }
 
 pub loop-x-smaller : goal.loop-x-smaller
 loop-x-smaller c =
     let u = walks_on _ _ _ c.loop-x.invariant
     c.lexeme_at-x.ensures
-    (sym c.fits.ensures ∙ c.if-fits.true) in
+    (sym c.fits.ensures ∙ c.if-not-fits.false) in
     let z = walk_further _ c.loop-x.w _
     c.lexeme_at-x.ensures
-    (sym c.fits.ensures ∙ c.if-fits.true) in
+    (sym c.fits.ensures ∙ c.if-not-fits.false) in
     let y = ap (λ (v : Walk). v.at) c.step-w.ensures in
     omega (arith, u.within)
 
@@ -41,11 +41,11 @@ loop-x-preserved c =
     subst (λ (v : Walk). Walks c.args.s.now v) (sym c.step-w.ensures)
     (walks_on _ _ _ c.loop-x.invariant
     c.lexeme_at-x.ensures
-    (sym c.fits.ensures ∙ c.if-fits.true))
+    (sym c.fits.ensures ∙ c.if-not-fits.false))
 
-pub returns-in-loop-x : goal.returns-in-loop-x
-returns-in-loop-x c =
+pub returns-then-not-fits : goal.returns-then-not-fits
+returns-then-not-fits c =
     walks_off _ _ _ c.loop-x.invariant
     c.lexeme_at-x.ensures
     (sym c.is_end.ensures ∙ c.if-is_end.false)
-    (sym c.fits.ensures ∙ c.if-fits.false)
+    (sym c.fits.ensures ∙ c.if-not-fits.true)

@@ -1,74 +1,78 @@
 -- `group_end` meets its contract.
-use mathlib.Core.Path.{sym, ◌∙◌}
+use mathlib.Core.Path.{sym, ap, ◌∙◌}
+use Rattle.clause_rules.specs.declared.Role.{Role}
+use Rattle.clause_rules.specs.Roles.{role_number}
+use Rattle.clause_rules.proofs.Roles.{same_role}
 use native.Mathlib.Omega.{arith}
 use Rattle.clause_rules.proofs.Scans.{scan_start, scan_stop, scan_open, scan_on, scan_closed}
 use Rattle.clause_rules.proofs.Scans.{scan_close, lexes_further, one_six, two_six}
 use Rattle.clause_rules.proofs.group_end.Goals as goal
 
-pub loop-x-init : goal.loop-x-init
-loop-x-init c = scan_start _ _ c.requires
+pub loop-deep-init : goal.loop-deep-init
+loop-deep-init c = scan_start _ _ c.requires
 
 pub lexeme_at-x-requires : goal.lexeme_at-x-requires
-lexeme_at-x-requires c = c.loop-x.invariant.within
+lexeme_at-x-requires c = c.loop-deep.invariant.within
 
-pub returns-then-k-eq6 : goal.returns-then-k-eq6
-returns-then-k-eq6 c =
-    let L = c.loop-x in
+pub returns-in-End : goal.returns-in-End
+returns-in-End c =
+    let L = c.loop-deep in
     scan_stop _ _ _ _ L.invariant _ c.lexeme_at-x.ensures
-    (sym c.sort-k.ensures ∙ c.if-k-eq6.true)
+    (sym c.role_of.ensures ∙ ap role_number c.in-End.is)
 
 pub overflow_add-deep : goal.overflow_add-deep
-overflow_add-deep c = let L = c.loop-x in
+overflow_add-deep c = let L = c.loop-deep in
     omega (arith, L.invariant.few, L.invariant.within)
 
-pub loop-x-smaller-then-k-eq1 : goal.loop-x-smaller-then-k-eq1
-loop-x-smaller-then-k-eq1 c =
+pub loop-deep-smaller-in-Open : goal.loop-deep-smaller-in-Open
+loop-deep-smaller-in-Open c =
     let X = c.lexeme_at-x.ensures in
     let z = lexes_further _ _ _ X (λ y. one_six
-    (sym c.if-k-eq1.true ∙ c.sort-k.ensures ∙ y)) in
+    (sym (ap role_number c.in-Open.is) ∙ c.role_of.ensures ∙ y)) in
     omega (arith, X.within)
 
-pub loop-x-preserved-then-k-eq1 : goal.loop-x-preserved-then-k-eq1
-loop-x-preserved-then-k-eq1 c =
-    scan_open _ _ _ _ c.loop-x.invariant _
+pub loop-deep-preserved-in-Open : goal.loop-deep-preserved-in-Open
+loop-deep-preserved-in-Open c =
+    scan_open _ _ _ _ c.loop-deep.invariant _
     c.lexeme_at-x.ensures
-    (sym c.sort-k.ensures ∙ c.if-k-eq1.true)
+    (sym c.role_of.ensures ∙ ap role_number c.in-Open.is)
 
 pub returns-then-deep-eq0 : goal.returns-then-deep-eq0
 returns-then-deep-eq0 c =
-    scan_closed _ _ _ _ c.loop-x.invariant _
+    scan_closed _ _ _ _ c.loop-deep.invariant _
     c.lexeme_at-x.ensures
-    (sym c.sort-k.ensures ∙ c.if-k-eq2.true)
+    (sym c.role_of.ensures ∙ ap role_number c.in-Close.is)
     c.if-deep-eq0.true
 
 pub overflow_sub-deep : goal.overflow_sub-deep
 overflow_sub-deep c = omega (arith, c.if-deep-eq0.false)
 
-pub loop-x-smaller-then-k-eq2 : goal.loop-x-smaller-then-k-eq2
-loop-x-smaller-then-k-eq2 c =
+pub loop-deep-smaller-in-Close : goal.loop-deep-smaller-in-Close
+loop-deep-smaller-in-Close c =
     let X = c.lexeme_at-x.ensures in
     let z = lexes_further _ _ _ X (λ y. two_six
-    (sym c.if-k-eq2.true ∙ c.sort-k.ensures ∙ y)) in
+    (sym (ap role_number c.in-Close.is) ∙ c.role_of.ensures ∙ y)) in
     omega (arith, X.within)
 
-pub loop-x-preserved-then-k-eq2 : goal.loop-x-preserved-then-k-eq2
-loop-x-preserved-then-k-eq2 c =
-    scan_close _ _ _ _ c.loop-x.invariant _
+pub loop-deep-preserved-in-Close : goal.loop-deep-preserved-in-Close
+loop-deep-preserved-in-Close c =
+    scan_close _ _ _ _ c.loop-deep.invariant _
     c.lexeme_at-x.ensures
-    (sym c.sort-k.ensures ∙ c.if-k-eq2.true)
+    (sym c.role_of.ensures ∙ ap role_number c.in-Close.is)
     c.if-deep-eq0.false
 
-pub loop-x-smaller : goal.loop-x-smaller
-loop-x-smaller c =
+pub loop-deep-smaller : goal.loop-deep-smaller
+loop-deep-smaller c =
     let X = c.lexeme_at-x.ensures in
-    let u = c.sort-k.ensures in
-    let z = lexes_further _ _ _ X (λ y. c.if-k-eq6.false (u ∙ y)) in
+    let u = c.role_of.ensures in
+    let z = lexes_further _ _ _ X (λ y. c.in_default.not-End (same_role _ Role.End (u ∙ y))) in
     omega (arith, X.within)
 
-pub loop-x-preserved : goal.loop-x-preserved
-loop-x-preserved c =
-    let u = c.sort-k.ensures in
-    scan_on _ _ _ _ c.loop-x.invariant _
+pub loop-deep-preserved : goal.loop-deep-preserved
+loop-deep-preserved c =
+    let u = c.role_of.ensures in
+    scan_on _ _ _ _ c.loop-deep.invariant _
     c.lexeme_at-x.ensures
-    (λ y. c.if-k-eq6.false (u ∙ y)) (λ y. c.if-k-eq1.false (u ∙ y))
-    (λ y. c.if-k-eq2.false (u ∙ y))
+    (λ y. c.in_default.not-End (same_role _ Role.End (u ∙ y)))
+    (λ y. c.in_default.not-Open (same_role _ Role.Open (u ∙ y)))
+    (λ y. c.in_default.not-Close (same_role _ Role.Close (u ∙ y)))

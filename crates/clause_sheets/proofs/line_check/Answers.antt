@@ -12,7 +12,7 @@ returns-in_default c =
     c.args.c)
     (unsplit c.args.s.now
     c.args.c c.requires
-    (sym c.in_default.is ∙ c.number.ensures))
+    (sym c.in_default.is ∙ c.read.ensures))
 
 pub returns-then-v-gt63 : goal.returns-then-v-gt63
 returns-then-v-gt63 c =
@@ -24,8 +24,8 @@ returns-then-v-gt63 c =
     (split c.args.s.now
     c.args.c
     c.requires _ _
-    (sym c.in-Is.is
-    ∙ c.number.ensures))
+    (sym c.in-Some.is
+    ∙ c.read.ensures))
     c.if-v-gt63.true)
 
 pub returns-then-end-at : goal.returns-then-end-at
@@ -36,8 +36,8 @@ returns-then-end-at c =
     c.args.c
     c.requires _ _
     (split c.args.s.now c.args.c c.requires
-    _ _ (sym c.in-Is.is
-    ∙ c.number.ensures)) (omega (arith, c.if-v-gt63.false))
+    _ _ (sym c.in-Some.is
+    ∙ c.read.ensures)) (omega (arith, c.if-v-gt63.false))
     c.if-end-at.true)
 
 pub slice_bounds-expression_check-end : goal.slice_bounds-expression_check-end
@@ -45,8 +45,8 @@ slice_bounds-expression_check-end c =
     let S = (split c.args.s.now
     c.args.c
     c.requires _ _
-    (sym c.in-Is.is
-    ∙ c.number.ensures)) in
+    (sym c.in-Some.is
+    ∙ c.read.ensures)) in
     omega (arith, S.end, c.requires)
 
 pub returns : goal.returns
@@ -57,8 +57,8 @@ returns c =
     (split c.args.s.now
     c.args.c
     c.requires _ _
-    (sym c.in-Is.is
-    ∙ c.number.ensures))
+    (sym c.in-Some.is
+    ∙ c.read.ensures))
     (omega (arith, c.if-v-gt63.false))
     (omega (arith, c.if-end-at.false)) _
     c.expression_check.ensures

@@ -9,7 +9,7 @@ pub returns-in_default : goal.returns-in_default
 returns-in_default c =
     emitted_not _ _ (unsplit c.args.s.now
     c.args.c c.requires
-    (sym c.in_default.is ∙ c.number.ensures))
+    (sym c.in_default.is ∙ c.read.ensures))
 
 pub returns-then-v-gt63 : goal.returns-then-v-gt63
 returns-then-v-gt63 c =
@@ -19,8 +19,8 @@ returns-then-v-gt63 c =
     (split c.args.s.now
     c.args.c
     c.requires _ _
-    (sym c.in-Is.is
-    ∙ c.number.ensures))
+    (sym c.in-Some.is
+    ∙ c.read.ensures))
     c.if-v-gt63.true)
 
 pub returns-then-end-at : goal.returns-then-end-at
@@ -30,8 +30,8 @@ returns-then-end-at c =
     (split c.args.s.now
     c.args.c
     c.requires _ _
-    (sym c.in-Is.is
-    ∙ c.number.ensures))
+    (sym c.in-Some.is
+    ∙ c.read.ensures))
     (omega (arith, c.if-v-gt63.false)) c.if-end-at.true)
 
 pub slice_bounds-alternatives-end : goal.slice_bounds-alternatives-end
@@ -39,8 +39,8 @@ slice_bounds-alternatives-end c =
     let S = (split c.args.s.now
     c.args.c
     c.requires _ _
-    (sym c.in-Is.is
-    ∙ c.number.ensures)) in
+    (sym c.in-Some.is
+    ∙ c.read.ensures)) in
     omega (arith, S.end, c.requires)
 
 pub returns : goal.returns
@@ -49,7 +49,7 @@ returns c =
     (behind c.args.s.now c.args.c c.requires _ _ (split
     c.args.s.now
     c.args.c c.requires _ _
-    (sym c.in-Is.is ∙ c.number.ensures))
+    (sym c.in-Some.is ∙ c.read.ensures))
     (omega (
       arith,
       c.if-v-gt63.false,

@@ -2,7 +2,7 @@
 use mathlib.Core.Path.{sym, ◌∙◌}
 use native.Mathlib.Omega.{arith}
 use Rattle.sheets.proofs.Loop.{line_in, line_less}
-use Rattle.clause_sheets.proofs.Passes.{pass_start, pass_good, pass_form, pass_deep}
+use Rattle.clause_sheets.proofs.Passes.{pass_start, pass_good, pass_bad}
 use Rattle.clause_sheets.proofs.Passes.{pass_open, pass_end}
 use Rattle.clause_sheets.proofs.lines_check.Goals as goal
 
@@ -38,30 +38,19 @@ loop-c-preserved c =
     pass_good c.loop-c.invariant
     c.line-c.ensures _ _
     c.if-end-s.true
-    (sym c.in-Good.is ∙ c.line_check.ensures)
-    c.larger-past.ensures
+    (sym c.in-Ok.is ∙ c.line_check.ensures)
+    c.max-past.ensures
 
 pub overflow_add-result : goal.overflow_add-result
 overflow_add-result c = let I = c.loop-c.invariant in
     omega (arith, I.few, I.low)
 
-pub returns-in-Form : goal.returns-in-Form
-returns-in-Form c =
-    pass_form c.loop-c.invariant
-    c.line-c.ensures
+pub returns-in-Err : goal.returns-in-Err
+returns-in-Err c =
+    pass_bad c.loop-c.invariant
+    c.line-c.ensures _
     c.if-end-s.true
-    (sym c.in-Form.is ∙ c.line_check.ensures)
-
-pub overflow_add-result-in-Deep : goal.overflow_add-result-in-Deep
-overflow_add-result-in-Deep c = let I = c.loop-c.invariant in
-    omega (arith, I.few, I.low)
-
-pub returns-in-Deep : goal.returns-in-Deep
-returns-in-Deep c =
-    pass_deep c.loop-c.invariant
-    c.line-c.ensures
-    c.if-end-s.true
-    (sym c.in-Deep.is ∙ c.line_check.ensures)
+    (sym c.in-Err.is ∙ c.line_check.ensures)
 
 pub returns-then-c-end : goal.returns-then-c-end
 returns-then-c-end c = pass_end c.loop-c.invariant

@@ -1,6 +1,6 @@
 -- `fields::piece_end` meets its contract. The loop's invariant: the first byte b from i on is the
 -- first from `at` on.
-use Prim.Native.Nat.{◌+◌, ◌-◌, ◌≤◌}
+use Prim.Native.Nat.{◌+◌, ◌≤◌}
 use mathlib.Core.Path.{◌≡◌}
 use lib.ListN.{length, drop}
 use Rattle.fields.specs.Pieces.{before}
@@ -10,6 +10,3 @@ abbrev pub invariant-loop-i : goal.invariant-loop-i
 invariant-loop-i l =
     (l.i ≤ length l.s) × (l.at + length (before l.b (drop l.at l.s)) ≡ l.i
     + length (before l.b (drop l.i l.s)))
-
-abbrev pub decreases-loop-i : goal.decreases-loop-i
-decreases-loop-i l = length l.s - l.i

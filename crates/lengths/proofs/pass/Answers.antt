@@ -49,14 +49,8 @@ offset_bounds-g-p c = omega (arith, c.requires.0.few, c.loop-p-test.true)
 pub bounds-g-p : goal.bounds-g-p
 bounds-g-p c = omega (arith, c.requires.0.few, c.loop-p-test.true)
 
-pub overflow_add-p : goal.overflow_add-p
-overflow_add-p c = omega (arith, c.loop-p-test.true, c.requires.0.few)
-
 pub names-requires : goal.names-requires
 names-requires c = (small c.before.before).clause
-
-pub loop-p-smaller-then-not-names : goal.loop-p-smaller-then-not-names
-loop-p-smaller-then-not-names c = omega (arith, c.loop-p-test.true)
 
 -- a rule that names nothing new gives nothing
 pub loop-p-preserved-then-not-names : goal.loop-p-preserved-then-not-names
@@ -74,9 +68,6 @@ loop-p-preserved-then-not-names c =
 pub grow-w-requires : goal.grow-w-requires
 grow-w-requires c =
     (c.loop-p.invariant.1.sound.shaped, small c.before.before.before.before)
-
-pub loop-p-smaller : goal.loop-p-smaller
-loop-p-smaller c = omega (arith, c.loop-p-test.true)
 
 pub loop-p-preserved : goal.loop-p-preserved
 loop-p-preserved c = (

@@ -5,7 +5,7 @@ use native.Mathlib.Numerals.{add-one}
 use lib.ListN.{drop, length-drop, drop_of_length-le}
 use Rattle.clauses.specs.Text.{opening}
 use Rattle.lexemes.specs.Lexemes.{sign, signs, first_sign, items}
-use Rattle.lexemes.specs.Answers.{as_lexed, sign_at_of}
+use Rattle.lexemes.specs.Answers.{lexed_at, sign_at_of}
 use Rattle.lexemes.proofs.Laws.{signs_bytes, signs_many, standing_within, search_stands}
 use Rattle.lexemes.proofs.Laws.{search_on}
 use Rattle.lexemes.proofs.sign_at.Goals as goal
@@ -26,7 +26,7 @@ returns-then-k-gt0 c =
     let f = search_stands signs (drop a.at a.s.now) c.loop-i.i (sign [] opening)
     (omega (arith, signs_many)) (omega (arith, k, c.if-k-gt0.true)) in
     let g = c.loop-i.invariant.1 ∙ f in
-    rw (c.sign.ensures, k) (sym (ap (as_lexed a.at) g))
+    rw (c.sign.ensures, k) (sym (ap (lexed_at a.at) g))
 
 pub loop-i-preserved : goal.loop-i-preserved
 loop-i-preserved c =
@@ -43,4 +43,4 @@ returns c =
     drop_of_length-le signs {i = c.loop-i.i} (omega (arith, signs_many)) in
     let g : first_sign signs (drop a.at a.s.now) ≡ items (drop a.at a.s.now) =
     c.loop-i.invariant.1 ∙ rw e refl in
-    c.item_at.ensures ∙ ap (as_lexed a.at) (sym g)
+    c.item_at.ensures ∙ ap (lexed_at a.at) (sym g)

@@ -6,19 +6,19 @@ use Rattle.rights.proofs.may_at.Goals as goal
 pub returns-then-end-at : goal.returns-then-end-at
 returns-then-end-at c = may_none _ _ c.requires c.if-end-at.true
 
-pub returns-then-same : goal.returns-then-same
-returns-then-same c =
+pub returns-then-eq : goal.returns-then-eq
+returns-then-eq c =
     may_see c.args.s.now c.args.c c.requires c.if-end-at.false
-    (sym c.if-same.true ∙ c.same.ensures)
+    (sym c.if-eq.true ∙ rw c.as_slice.ensures at c.eq.ensures)
 
-pub returns-then-same-2 : goal.returns-then-same-2
-returns-then-same-2 c =
+pub returns-then-eq-2 : goal.returns-then-eq-2
+returns-then-eq-2 c =
     may_change c.args.s.now c.args.c c.requires c.if-end-at.false
-    (sym c.if-same.false ∙ c.same.ensures)
-    (sym c.if-same-2.true ∙ c.same-2.ensures)
+    (sym c.if-eq.false ∙ rw c.as_slice.ensures at c.eq.ensures)
+    (sym c.if-eq-2.true ∙ rw c.as_slice-2.ensures at c.eq-2.ensures)
 
 pub returns : goal.returns
 returns c =
     may_not c.args.s.now c.args.c c.requires c.if-end-at.false
-    (sym c.if-same.false ∙ c.same.ensures)
-    (sym c.if-same-2.false ∙ c.same-2.ensures)
+    (sym c.if-eq.false ∙ rw c.as_slice.ensures at c.eq.ensures)
+    (sym c.if-eq-2.false ∙ rw c.as_slice-2.ensures at c.eq-2.ensures)

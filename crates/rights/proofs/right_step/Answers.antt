@@ -5,7 +5,8 @@ use lib.Dec.{ltb}
 use Rattle.fields.proofs.Lines.{fields_of}
 use Rattle.lines.specs.declared.Turn.{Turn}
 use Rattle.sheets.specs.Items.{step_at_of}
-use Rattle.rights.specs.declared.RightLine.{RightLine}
+use Rattle.std.specs.Prelude.{Option}
+use Rattle.rights.specs.declared.Right.{Right}
 use Rattle.rights.specs.RightLines.{right_line, right_fields}
 use Rattle.rights.specs.RightSheets.{right_said, right_line_step}
 use Rattle.rights.proofs.Lines.{step_turn}
@@ -29,7 +30,7 @@ turned c x is =
     ∙ step_turn (bytes_left a.s.now a.c) (ltb a.c.end (length a.s.now))
 
 -- what its fields say
-said : (c : Lts.After-right_line Tie.the-claims Reads.Pre Reads.Post) (x : RightLine)
+said : (c : Lts.After-right_line Tie.the-claims Reads.Pre Reads.Post) (x : Option Right)
     → c.right_line.result ≡ x
     → right_said x ≡ right_said (right_line (bytes_left c.args.s.now c.args.c))
 said c x is =
@@ -45,10 +46,10 @@ returns-in-Many c = turned c.before.before _ c.in-Many.is
 pub returns-in-Open : goal.returns-in-Open
 returns-in-Open c = turned c.before.before _ c.in-Open.is
 
-pub returns-in-Good : goal.returns-in-Good
-returns-in-Good c = said c.before.before _ c.in-Good.is ∙ turned c.before.before.before.before _
+pub returns-in-Some : goal.returns-in-Some
+returns-in-Some c = said c.before.before _ c.in-Some.is ∙ turned c.before.before.before.before _
     c.in-Whole.is
 
-pub returns-in-Bad : goal.returns-in-Bad
-returns-in-Bad c = said c.before.before _ c.in-Bad.is ∙ turned c.before.before.before.before _
+pub returns-in-None : goal.returns-in-None
+returns-in-None c = said c.before.before _ c.in-None.is ∙ turned c.before.before.before.before _
     c.in-Whole.is

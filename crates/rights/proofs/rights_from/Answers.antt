@@ -1,7 +1,5 @@
-use mathlib.Core.Path.{refl, sym, ap, ◌∙◌}
 use native.Mathlib.Omega.{arith}
 use Rattle.sheets.proofs.Loop.{line_in}
-use Rattle.rights.specs.Answers.{as_step}
 use Rattle.rights.proofs.Lines.{on_start, on_took, on_less, on_more, on_stop}
 use Rattle.rights.proofs.Lines.{on_end}
 use Rattle.rights.proofs.rights_from.Goals as goal
@@ -18,11 +16,11 @@ right_step-requires c = let i = line_in _ _ c.loop-r.invariant.low _ c.line-c.en
 
 pub with_right-sees-requires : goal.with_right-sees-requires
 with_right-sees-requires c = let t = (on_took c.loop-r.invariant c.line-c.ensures
-    (ap as_step (sym c.in-Next.is) ∙ c.right_step.ensures)).1 in (t.rises, t.small)
+    (rw c.in-Ok-Some.field-0-is at c.in-Ok-Some.ensures)).1 in (t.rises, t.small)
 
 pub with_change-changes-requires : goal.with_change-changes-requires
 with_change-changes-requires c = let t = (on_took c.loop-r.invariant c.line-c.ensures
-    (ap as_step (sym c.in-Next.is) ∙ c.right_step.ensures)).1 in (t.rises, t.small)
+    (rw c.in-Ok-Some.field-0-is at c.in-Ok-Some.ensures)).1 in (t.rises, t.small)
 
 pub overflow_add-n : goal.overflow_add-n
 overflow_add-n c = omega (
@@ -37,22 +35,22 @@ pub overflow_add-at : goal.overflow_add-at
 overflow_add-at c = omega (
   arith,
   (on_took c.loop-r.invariant c.line-c.ensures
-      (ap as_step (sym c.in-Next.is) ∙ c.right_step.ensures)).0,
+      (rw c.in-Ok-Some.field-0-is at c.in-Ok-Some.ensures)).0,
 )
 
 pub loop-r-smaller : goal.loop-r-smaller
 loop-r-smaller c =
     on_less c.loop-r.invariant c.line-c.ensures
-    (ap as_step (sym c.in-Next.is) ∙ c.right_step.ensures)
+    (rw c.in-Ok-Some.field-0-is at c.in-Ok-Some.ensures)
 
 pub loop-r-preserved : goal.loop-r-preserved
 loop-r-preserved c =
     on_more c.loop-r.invariant c.line-c.ensures
-    (ap as_step (sym c.in-Next.is) ∙ c.right_step.ensures) c.with_right-sees.ensures
+    (rw c.in-Ok-Some.field-0-is at c.in-Ok-Some.ensures) c.with_right-sees.ensures
     c.with_change-changes.ensures
 
-pub overflow_add-n-in-Stop : goal.overflow_add-n-in-Stop
-overflow_add-n-in-Stop c = omega (
+pub overflow_add-result : goal.overflow_add-result
+overflow_add-result c = omega (
   arith,
   c.loop-r.invariant.count,
   c.loop-r.invariant.low,
@@ -60,12 +58,14 @@ overflow_add-n-in-Stop c = omega (
   c.well_formed,
 )
 
-pub returns-in-Stop : goal.returns-in-Stop
-returns-in-Stop c =
-    rw (on_stop c.loop-r.invariant c.line-c.ensures
-    (ap as_step (sym c.in-Stop.is) ∙ c.right_step.ensures)) c.refuse_rights.ensures
+pub returns-in-Err : goal.returns-in-Err
+returns-in-Err c =
+    record { is = on_stop c.loop-r.invariant c.line-c.ensures c.in-Err.ensures }
 
-pub returns-in-End : goal.returns-in-End
-returns-in-End c =
-    rw (on_end c.loop-r.invariant c.line-c.ensures
-    (ap as_step (sym c.in-End.is) ∙ c.right_step.ensures)) (refl, c.loop-r.invariant.holds)
+pub returns-in-Ok-None : goal.returns-in-Ok-None
+returns-in-Ok-None c = record {
+  rights = c.loop-r.invariant.rights;
+  is = on_end c.loop-r.invariant c.line-c.ensures
+      (rw c.in-Ok-None.field-0-is at c.in-Ok-None.ensures);
+  held = c.loop-r.invariant.holds;
+}

@@ -12,3 +12,7 @@ loop-i-preserved c =
 
 pub returns : goal.returns
 returns c = upto_end _ _ _ _ _ c.loop-i.invariant.0 (omega arith)
+
+pub returns-2 : goal.returns-2
+returns-2 c =
+    upto_end _ _ _ _ _ (upto_more _ _ _ _ _ c.loop-i.invariant.0 c.with-out.ensures) (omega arith)

@@ -1,51 +1,32 @@
 -- `scanning::digits_at` meets its contract: the loop goes from digit to digit, and each way out is
 -- a place where no number goes on.
-use mathlib.Core.Path.{refl}
+use mathlib.Core.Path.{◌≡◌, refl, sym, subst, ◌∙◌}
+use Prim.Native.Nat.{ℕ}
+use lib.ListN.{length}
+use Rattle.scanning.specs.Scanned.{DigitsAt}
 use native.Mathlib.Omega.{arith}
-use Rattle.scanning.proofs.Places.{reached_none, reached_more, stop_end, stop_low}
-use Rattle.scanning.proofs.Places.{stop_high, stop_most, stop_zero}
+use Rattle.scanning.proofs.Places.{reached_more, stop_end, stop_other, stop_most, stop_zero}
 use Rattle.scanning.proofs.digits_at.Goals as goal
 
-pub loop-i-init : goal.loop-i-init
-loop-i-init c = reached_none c.args.s.now c.args.at c.args.most c.requires.at_in_bounds
-
-pub returns-then-b-lt48 : goal.returns-then-b-lt48
-returns-then-b-lt48 c =
+pub returns-then-not-is_ascii_digit : goal.returns-then-not-is_ascii_digit
+returns-then-not-is_ascii_digit c =
     let a = c.args in
-    let x = c.loop-i.invariant in
-    stop_low a.s.now a.at a.most x c.loop-i-test.true c.if-b-lt48.true
-
-pub returns-then-b-gt57 : goal.returns-then-b-gt57
-returns-then-b-gt57 c =
-    let a = c.args in
-    let x = c.loop-i.invariant in
-    stop_high a.s.now a.at a.most x c.loop-i-test.true
-    c.if-b-lt48.false c.if-b-gt57.true
-
-pub overflow_mul-w : goal.overflow_mul-w
-overflow_mul-w c =
-    let a = c.args in
-    let x = c.loop-i.invariant in
-    omega (arith, x.small, c.requires.most_bound)
-
-pub overflow_add-w : goal.overflow_add-w
-overflow_add-w c =
-    let a = c.args in
-    let x = c.loop-i.invariant in
-    omega (arith, x.small, c.requires.most_bound)
+    stop_other a.s.now a.at a.most c.loop-i.invariant c.loop-i-test.true
+    (sym c.is_ascii_digit.ensures.value ∙ c.if-not-is_ascii_digit.true)
 
 pub returns-then-most-w : goal.returns-then-most-w
 returns-then-most-w c =
     let a = c.args in
     let x = c.loop-i.invariant in
     stop_most a.s.now a.at a.most x c.loop-i-test.true
-    c.if-b-lt48.false c.if-b-gt57.false c.if-most-w.true
+    c.if-not-is_ascii_digit.ensures.cases.0 c.if-not-is_ascii_digit.ensures.cases.1 c.if-most-w.true
 
 pub returns-then-w-eq0 : goal.returns-then-w-eq0
 returns-then-w-eq0 c =
     let a = c.args in
     let x = c.loop-i.invariant in
-    stop_zero a.s.now a.at a.most x c.loop-i-test.true c.if-b-lt48.false (omega arith)
+    stop_zero a.s.now a.at a.most x c.loop-i-test.true c.if-not-is_ascii_digit.ensures.cases.0
+    (omega arith)
 
 pub loop-i-preserved : goal.loop-i-preserved
 loop-i-preserved c =
@@ -53,10 +34,12 @@ loop-i-preserved c =
     let x = c.loop-i.invariant in
     reached_more a.s.now a.at a.most _ refl x
     c.loop-i-test.true
-    c.if-b-lt48.false c.if-b-gt57.false
+    c.if-not-is_ascii_digit.ensures.cases.0 c.if-not-is_ascii_digit.ensures.cases.1
     c.if-most-w.false (omega arith)
 
 pub returns : goal.returns
 returns c =
     let a = c.args in
-    stop_end a.s.now a.at a.most c.loop-i.invariant c.loop-i-test.false
+    let e : c.loop-i.i ≡ length a.s.now = omega arith in
+    subst (λ (i : ℕ). DigitsAt a.s.now a.at a.most (record { value = c.loop-i.v; next = i })) e
+    (stop_end a.s.now a.at a.most c.loop-i.invariant (omega arith))

@@ -20,13 +20,13 @@ pub returns-then-s-i-2 : goal.returns-then-s-i-2
 returns-then-s-i-2 c =
     let a = c.args in
     let p = c.requires in
-    ended a.s.now a.at a.most a.end c.digits_at-r.result p.end_bound
-    c.digits_at-r.ensures c.if-i-at.false
-    c.if-s-i.false c.if-s-i-2.true
+    other_end a.s.now a.at a.most a.end c.digits_at-r.result p.end_bound
+    c.digits_at-r.ensures c.if-s-i.false c.if-s-i-2.true
 
 pub returns : goal.returns
 returns c =
     let a = c.args in
     let p = c.requires in
-    other_end a.s.now a.at a.most a.end c.digits_at-r.result p.end_bound
-    c.digits_at-r.ensures c.if-s-i.false c.if-s-i-2.false
+    ended a.s.now a.at a.most a.end c.digits_at-r.result p.end_bound
+    c.digits_at-r.ensures c.if-i-at.false
+    c.if-s-i.false c.if-s-i-2.false

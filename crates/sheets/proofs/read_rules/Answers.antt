@@ -1,38 +1,21 @@
 -- `sheets::read_rules` meets its contract: the first line is tried as the definition tries it.
-use mathlib.Core.Path.{sym, ◌∙◌, subst}
-use native.Mathlib.Omega.{arith}
-use lib.Seq.{length-take-le}
+use mathlib.Core.Path.{sym, subst}
 use Rattle.sheets.specs.Items.{Reading, refused}
 use Rattle.sheets.specs.RuleSheets.{rule_names, rules_from}
 use Rattle.sheets.specs.Promises.{RulesRead}
-use Rattle.sheets.proofs.Names.{names_good, names_other, names_open}
+use Rattle.sheets.proofs.Names.{behind_some, behind_none}
 use Rattle.grammar.specs.Trees.{Rules}
 use Rattle.sheets.proofs.read_rules.Goals as goal
 
-pub slice_bounds-same-end : goal.slice_bounds-same-end
-slice_bounds-same-end c = sym (length-take-le _ _ (omega (arith, c.if-end-s.true)))
-
-pub returns-then-same : goal.returns-then-same
-returns-then-same c =
+pub returns-in-Some : goal.returns-in-Some
+returns-in-Some c =
     subst (λ (x : Reading Rules). RulesRead c.rules_from.result x)
-    (names_good (refused 1 1) rule_names c.args.s.now rules_from
-    c.line-c.result c.line-c.ensures
-    c.if-end-s.true
-    (sym c.if-same.true ∙ c.same.ensures))
+    (behind_some (refused 1 1) rule_names rules_from c.args.s.now c.in-Some.ensures)
     c.rules_from.ensures
 
-pub returns-then-end-s : goal.returns-then-end-s
-returns-then-end-s c =
-    subst (λ (x : Reading Rules). RulesRead c.refuse_rules.result x)
-    (names_other (refused 1 1) rule_names c.args.s.now rules_from
-    c.line-c.result c.line-c.ensures
-    c.if-end-s.true
-    (sym c.if-same.false ∙ c.same.ensures))
-    c.refuse_rules.ensures
-
-pub returns : goal.returns
-returns c =
-    subst (λ (x : Reading Rules). RulesRead c.refuse_rules-2.result x)
-    (names_open (refused 1 1) rule_names c.args.s.now rules_from
-    c.line-c.result c.line-c.ensures c.if-end-s.false)
-    c.refuse_rules-2.ensures
+pub returns-in-None : goal.returns-in-None
+returns-in-None c =
+    record {
+      is =
+          sym (behind_none (refused 1 1) rule_names rules_from c.args.s.now c.in-None.ensures);
+    }

@@ -1,45 +1,34 @@
 -- `sheets::rule_said` meets its contract: the line was read as the definition reads its bytes.
-use mathlib.Core.Path.{◌≡◌, sym, ap, ◌∙◌}
-use lib.ListN.{take}
+use mathlib.Core.Path.{◌≡◌, refl, ap, ◌∙◌}
+use Rattle.std.specs.Prelude.{Err}
+use Rattle.std.proofs.lemmas.Result.{err_from_is_err_and}
+use Rattle.grammar.specs.Trees.{Rules}
 use Rattle.fields.proofs.Lines.{fields_of}
-use Rattle.lines.specs.declared.RuleLine.{RuleLine}
+use Rattle.lines.specs.declared.RuleFault.{RuleFault}
 use Rattle.lines.specs.RuleLines.{rule_fields}
-use Rattle.sheets.specs.RuleSheets.{rule_said_of, rule_says}
-use Rattle.fields.specs.Cursors.{bytes_left}
-use Rattle.sheets.proofs.rule_said.Lts
-use Rattle.sheets.proofs.rule_said.Reads
-use Rattle.sheets.proofs.rule_said.Tie
+use Rattle.sheets.specs.Items.{stop}
+use Rattle.sheets.specs.Refusals.{number_of}
+use Rattle.sheets.specs.LineFaults.{rule_fault}
+use Rattle.sheets.specs.RuleSheets.{rule_said_of}
 use Rattle.sheets.proofs.rule_said.Goals as goal
 
--- what the line was read as
-said : (c : Lts.After-rule_line Tie.the-claims Reads.Pre Reads.Post) (x : RuleLine)
-    → c.rule_line.result ≡ x
-    → rule_said_of (take c.args.n c.args.rules) x
-    ≡ rule_says (take c.args.n c.args.rules)
-    (bytes_left c.args.s.now c.args.c)
-said c x is =
-    ap (rule_said_of (take c.args.n c.args.rules))
-    (sym is ∙ c.rule_line.ensures ∙ ap rule_fields
-    (fields_of c.args.s.now c.args.c c.requires.0 c.requires.1))
+-- what is wrong with the line has the refusal's number
+wrong : (seen : Rules) (e : RuleFault) → stop (number_of (rule_fault e)) ≡ rule_said_of seen (Err e)
+wrong seen RuleFault.Form = refl
+wrong seen RuleFault.Range = refl
+wrong seen RuleFault.Unfit = refl
+wrong seen RuleFault.Reversed = refl
 
-pub rule_line-requires : goal.rule_line-requires
-rule_line-requires c = c.requires.1
+pub returns-in_err-r : goal.returns-in_err-r
+returns-in_err-r c =
+    let a = c.args in
+    let p = err_from_is_err_and c.from_residual.result c.from_residual.ensures.1 in
+    rw (p.1, p.2) (wrong a.rules.now c.in_err-r.field-0.0
+    ∙ ap (rule_said_of a.rules.now)
+    (c.in_err-r.ensures ∙ ap rule_fields (fields_of a.s.now a.c c.requires.0 c.requires.1)))
 
-pub fresh-requires : goal.fresh-requires
-fresh-requires c = c.requires.2
-
-pub returns-in-Form : goal.returns-in-Form
-returns-in-Form c = said c.before.before _ c.in-Form.is
-
-pub returns-in-Range : goal.returns-in-Range
-returns-in-Range c = said c.before.before _ c.in-Range.is
-
-pub returns-in-Unfit : goal.returns-in-Unfit
-returns-in-Unfit c = said c.before.before _ c.in-Unfit.is
-
-pub returns-in-Reversed : goal.returns-in-Reversed
-returns-in-Reversed c = said c.before.before _ c.in-Reversed.is
-
-pub returns-in-Good : goal.returns-in-Good
-returns-in-Good c =
-    c.fresh.ensures ∙ said c.before.before.before _ c.in-Good.is
+pub returns : goal.returns
+returns c =
+    let a = c.args in
+    c.fresh.ensures ∙ ap (rule_said_of a.rules.now)
+    (c.in_ok-r.ensures ∙ ap rule_fields (fields_of a.s.now a.c c.requires.0 c.requires.1))

@@ -5,8 +5,8 @@ use lib.ListN.{length}
 use Rattle.sheets.proofs.Booking.{Reads}
 use Rattle.sheets.proofs.rules_from.Given as goal
 
-abbrev pub invariant-loop-book : goal.invariant-loop-book
-invariant-loop-book l = Reads l.s l.start l.book l.at
+abbrev pub invariant-loop-at : goal.invariant-loop-at
+invariant-loop-at l = Reads l.s l.start l.book l.at
 
-abbrev pub decreases-loop-book : goal.decreases-loop-book
-decreases-loop-book l = length l.s - l.at
+abbrev pub decreases-loop-at : goal.decreases-loop-at
+decreases-loop-at l = length l.s - l.at
