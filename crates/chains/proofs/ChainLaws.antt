@@ -1,19 +1,18 @@
 -- The levels of spans, and the table's entries one after the other.
-use mathlib.Core.Path.{◌≡◌, refl, sym, ap, ◌∙◌, subst}
+use mathlib.Core.Path.{◌≡◌, sym, ap, ◌∙◌, subst}
 use mathlib.Core.List.{List}
 use mathlib.Core.Bool.{true}
 use mathlib.Core.Logic.{◌↔◌}
 use Prim.Native.Nat.{ℕ, zero, suc, ◌+◌, ◌*◌, ◌≤◌, ◌<◌}
 use native.Mathlib.Omega.{arith}
 use native.Mathlib.Decide.{ℕ_discrete}
-use lib.ListN.{length, get_or, set, length-set}
-use lib.Seq.{get_or-set_same, get_or-set_other}
+use lib.ListN.{length, get_or}
 use Rattle.sets.specs.Sets.{In}
 use Rattle.grammar.specs.declared.Clause.{Clause}
 use Rattle.grammar.specs.declared.UnaryMark.{UnaryMark}
 use Rattle.grammar.specs.Trees.{Rules}
 use Rattle.marks.specs.declared.SpanMarks.{SpanMarks}
-use Rattle.marks.specs.declared.Least.{Least}
+use Rattle.std.specs.Prelude.{Option, Some, None}
 use Rattle.grammar.specs.declared.Column.{Column}
 use Rattle.marks.specs.Later.{OffsideBy, OffalignBy}
 use Rattle.marks.specs.Marked.{UnaryBy}
@@ -29,9 +28,9 @@ use Rattle.chains.proofs.TableLaws.{entry_as}
 
 -- ---- levels
 
-offside_align : (c : Column) (v : Least) → OffsideBy c v → OffalignBy c v
-offside_align c Least.None h = tt
-offside_align c (Least.At l) h = omega arith
+offside_align : (c : Column) (v : Option Column) → OffsideBy c v → OffalignBy c v
+offside_align c None h = tt
+offside_align c (Some l) h = omega arith
 
 module _ (k : SpanMarks) where
   below : UnaryBy k UnaryMark.Offside → UnaryBy k UnaryMark.Offalign
@@ -121,26 +120,6 @@ upto_next g e {ws} {ws'} l t s same new =
 
 -- ---- a level stored
 
-pub stored_none : (ups ws : List ℕ) (l : ℕ) → Stored ups ws ws l 0
-stored_none ups ws l =
-    record { size = refl; here = λ i h. absurd (omega arith); else = λ q h. refl }
-
-pub stored_more : {ups ws ws' : List ℕ} {l i : ℕ} (v : ℕ) → v ≡ get_or ups i 0
-    → 128 * l + i < length ws' → Stored ups ws ws' l i
-    → Stored ups ws (set ws' (128 * l + i) v) l (i + 1)
-stored_more {ups} {ws} {ws'} {l} {i} v e h c = record {
-  size = length-set ws' (128 * l + i) v ∙ c.size;
-  here = λ j x. go j x (ℕ_discrete j i);
-  else = λ q x. get_or-set_other ws' (128 * l + i) q v 0 (omega arith) ∙ c.else q x;
-}
-  where
-    go : (j : ℕ) → j < i + 1 → Dec (j ≡ i)
-        → get_or (set ws' (128 * l + i) v) (128 * l + j) 0 ≡ get_or ups j 0
-    go j x (yes z) = subst (λ (y : ℕ). get_or (set ws' (128 * l + i) v) (128 * l + y) 0
-        ≡ get_or ups y 0) (sym z) (get_or-set_same ws' (128 * l + i) v 0 h ∙ e)
-    go j x (no z) =
-        get_or-set_other ws' (128 * l + i) (128 * l + j) v 0 (omega arith) ∙ c.here j (omega arith)
-
 pub upto_stored : (g : Rules) (e : Pair) {ups ws ws' : List ℕ} (l : ℕ) → Level g e l ups
     → Upto g e ws l → Stored ups ws ws' l 128 → Upto g e ws' (l + 1)
 upto_stored g e {ups} {ws} {ws'} l v t c = upto_next g e l t c.size c.else new
@@ -161,29 +140,6 @@ upto_stored g e {ups} {ws} {ws'} l v t c = upto_next g e l t c.size c.else new
             (let y : 128 * l + (2 * B + 1) ≡ 128 * l + 2 * B + 1 = omega arith in y)
 
 -- ---- a level copied
-
-pub copied_none : (ws : List ℕ) (l : ℕ) → Copied ws ws l 0
-copied_none ws l = record { size = refl; here = λ i h. absurd (omega arith); else = λ q h. refl }
-
-pub copied_more : {ws ws' : List ℕ} {l i : ℕ} (at v : ℕ) → at ≡ 128 * l + i → v ≡ get_or ws' at 0
-    → i < 128 → at + 128 < length ws' → Copied ws ws' l i
-    → Copied ws (set ws' (at + 128) v) l (i + 1)
-copied_more {ws} {ws'} {l} {i} at v e f b h c = record {
-  size = length-set ws' (at + 128) v ∙ c.size;
-  here = λ j x. go j x (ℕ_discrete j i);
-  else = λ q x. get_or-set_other ws' (at + 128) q v 0 (omega arith) ∙ c.else q x;
-}
-  where
-    go : (j : ℕ) → j < i + 1 → Dec (j ≡ i)
-        → get_or (set ws' (at + 128) v) (128 * l + j + 128) 0 ≡ get_or ws (128 * l + j) 0
-    go j x (yes z) =
-        ap (λ (q : ℕ). get_or (set ws' (at + 128) v) q 0)
-        (let y : 128 * l + j + 128 ≡ at + 128 = omega arith in y)
-        ∙ get_or-set_same ws' (at + 128) v 0 h ∙ f
-        ∙ ap (λ (q : ℕ). get_or ws' q 0) (let y : at ≡ 128 * l + j = omega arith in y)
-        ∙ c.else (128 * l + j) (omega arith)
-    go j x (no z) = get_or-set_other ws' (at + 128) (128 * l + j + 128) v 0 (omega arith)
-        ∙ c.here j (omega arith)
 
 pub upto_copied : (g : Rules) (e : Pair) {ws ws' : List ℕ} (l : ℕ) → Unranked (l + 1) g (length g)
     → Upto g e ws (l + 1) → Copied ws ws' l 128 → Upto g e ws' (l + 1 + 1)

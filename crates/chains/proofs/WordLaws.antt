@@ -100,10 +100,6 @@ through_skip {k} ws e z = record {
 
 -- ---- words put together
 
-pub gathers_none : (ws : List ℕ) (s : ℕ) → Gathers ws (Done s s) 0
-gathers_none ws s =
-    record { members = λ B. (λ x. absurd (in_zero B x), λ x. absurd (x.1.1 x.1.0)) }
-
 pub gathers_next : {ws : List ℕ} {s left c r : ℕ} (v : ℕ) → v ≡ get_or ws c 0
     → ((A : ℕ) → In left A → In s A) → Least left c → Gathers ws (Done s left) r
     → Gathers ws (Done s (bit_and left (left - 1))) (bit_or r v)
@@ -125,17 +121,6 @@ gathers_next {ws} {s} {left} {c} {r} v e sub l g = record {
     back B x (yes z) = inr (in_word (sym e) (subst (λ (p : ℕ). Has ws p B) z x.2))
     back B x (no z) =
         inl ((g.members B).1 (x.0, (x.1.0, λ i. x.1.1 ((l.others x.0).1 (i, z))), x.2))
-
-pub gathers_end : {ws : List ℕ} {s left r : ℕ} → left ≡ 0 → Gathers ws (Done s left) r
-    → Gathers ws (In s) r
-gathers_end {ws} {s} {left} e g = record {
-  members = λ B. (
-    λ x. let y = (g.members B).0 x in
-        (y.0, y.1.0, y.2),
-    λ x. (g.members B).1
-        (x.0, (x.1, λ i. in_zero x.0 (in_word e i)), x.2),
-  );
-}
 
 -- ---- the bits stand in the entries
 

@@ -13,7 +13,7 @@ ghost use Rattle.chains.specs.Reaching.{Through, Closes, Gathers, Turned};
 ghost use Rattle.chains.specs.Chains.{rank, HoldsAt, Leveled, Upto, Level, Chains, Ranked};
 ghost use Rattle.chains.specs.Chains.{Unranked, Stored, Copied};
 
-use cuts::{Pair, lowest, put_pair};
+use cuts::{Pair, members_of, put_pair};
 use grammar::{Clause, Grammar, Rule, UnaryMark};
 use marks::{SpanMarks, allows_unary};
 use sets::{has, with};
@@ -21,6 +21,7 @@ use spans::clear;
 
 // The level of a span: 3 where all of its tokens stand on one line, 2 where offside holds, 1 where
 // offalign does, else 0.
+// Kept: a number, as the table's entries of a level stand at 128 times it.
 pub fn level_of(k: SpanMarks) -> usize
     ensures { Leveled k result }
 {
@@ -36,15 +37,15 @@ pub fn level_of(k: SpanMarks) -> usize
     0
 }
 
-// Is `l` the least level at which the mark holds?
-fn is_rank(m: UnaryMark, l: usize) -> bool
-    ensures { Says result (rank m ≡ l) }
+// The least level at which the mark holds.
+fn rank(m: UnaryMark) -> usize
+    ensures { result ≡ rank m }
 {
     match m {
-        UnaryMark::None => l == 0,
-        UnaryMark::Offside => l == 2,
-        UnaryMark::Offalign => l == 1,
-        UnaryMark::Single => l == 3,
+        UnaryMark::None => 0,
+        UnaryMark::Offalign => 1,
+        UnaryMark::Offside => 2,
+        UnaryMark::Single => 3,
     }
 }
 
@@ -53,10 +54,8 @@ fn ranked(c: Clause, l: usize) -> bool
     ensures { Says result (Ranked l c) }
 {
     match c {
-        Clause::Empty => false,
-        Clause::Atom(_, _) => false,
-        Clause::Unary(_, m) => is_rank(m, l),
-        Clause::Binary(_, _, _) => false,
+        Clause::Unary(_, m) => rank(m) == l,
+        Clause::Empty | Clause::Atom(_, _) | Clause::Binary(_, _, _) => false,
     }
 }
 
@@ -65,14 +64,10 @@ fn unranked(g: Grammar, l: usize) -> bool
     requires { Formed g }
     ensures { result ≡ true → Unranked l (rules_of g) g.count }
 {
-    let mut i: usize = 0;
-    while i < g.count {
-        let r = g.rules[i];
-        let c = r.clause;
-        if ranked(c, l) {
+    for i in 0..g.count {
+        if ranked(g.rules[i].clause, l) {
             return false;
         }
-        i += 1;
     }
     true
 }
@@ -81,12 +76,7 @@ fn unranked(g: Grammar, l: usize) -> bool
 fn holds_at(m: UnaryMark, l: usize) -> bool
     ensures { Says result (HoldsAt l m) }
 {
-    match m {
-        UnaryMark::None => true,
-        UnaryMark::Offside => 2 <= l,
-        UnaryMark::Offalign => 1 <= l,
-        UnaryMark::Single => 3 <= l,
-    }
+    rank(m) <= l
 }
 
 // Each word gets its own bit, and no other.
@@ -94,10 +84,8 @@ fn selves(words: &mut [u64])
     requires { length words.old ≡ 64 }
     ensures { Selves 64 words.new }
 {
-    let mut a: u8 = 0;
-    while a < 64 {
+    for a in 0u8..64 {
         words[a as usize] = with(0, a);
-        a += 1;
     }
 }
 
@@ -114,10 +102,7 @@ fn add_set(words: &mut [u64], a: u8, set: u64)
 fn met(set: u64, seen: u64, again: bool) -> u64
     ensures { Met set seen again result }
 {
-    if again {
-        return set;
-    }
-    set & seen
+    if again { set } else { set & seen }
 }
 
 // Count a link of `a` over `b`, if there is one: `a` has what `b` has. `again` says that the
@@ -145,10 +130,8 @@ fn count_rule(seen: &mut [u64], twice: &mut [u64], base: &[u64], r: Rule, e: Pai
         r.clause seen.old seen.new twice.old
         twice.new }
 {
-    let c = r.clause;
-    match c {
-        Clause::Empty => {}
-        Clause::Atom(_, _) => {}
+    match r.clause {
+        Clause::Empty | Clause::Atom(_, _) => {}
         Clause::Unary(b, m) => count(seen, twice, base, r.left, b, holds_at(m, l), false),
         Clause::Binary(b, d, _) => {
             count(seen, twice, base, r.left, d, has(e.one, b), has(e.two, b));
@@ -166,11 +149,9 @@ fn counts(seen: &mut [u64], twice: &mut [u64], base: &[u64], g: Grammar, e: Pair
 {
     selves(seen);
     clear(twice, 64);
-    let mut i: usize = 0;
-    while i < g.count {
+    for i in 0..g.count {
         let r = g.rules[i];
         count_rule(seen, twice, base, r, e, l);
-        i += 1;
     }
 }
 
@@ -195,10 +176,8 @@ fn through(words: &mut [u64], k: u8)
     if set == with(0, k) {
         return;
     }
-    let mut a: u8 = 0;
-    while a < 64 {
+    for a in 0u8..64 {
         add_if(words, a, k, set);
-        a += 1;
     }
 }
 
@@ -207,10 +186,8 @@ fn close(words: &mut [u64])
     requires { length words.old ≡ 64 }
     ensures { Closes words.old 64 words.new }
 {
-    let mut k: u8 = 0;
-    while k < 64 {
+    for k in 0u8..64 {
         through(words, k);
-        k += 1;
     }
 }
 
@@ -220,11 +197,8 @@ fn gather(words: &[u64], set: u64) -> u64
     ensures { Gathers words.now (In set) result }
 {
     let mut r: u64 = 0;
-    let mut rest = set;
-    while rest != 0 {
-        let c = lowest(rest);
+    for c in members_of(set) {
         r = r | words[c as usize];
-        rest = rest & (rest - 1);
     }
     r
 }
@@ -235,12 +209,10 @@ fn turn(ups: &mut [u64], seen: &[u64], twice: &[u64])
     ensures { Turned seen.now twice.now 64 ups.new }
 {
     clear(ups, 128);
-    let mut a: u8 = 0;
-    while a < 64 {
+    for a in 0u8..64 {
         let one = seen[a as usize];
         let two = gather(twice, one);
         put_pair(ups, 0, Pair { one, two }, a);
-        a += 1;
     }
 }
 
@@ -265,11 +237,8 @@ fn store(table: &mut [u64], ups: &[u64], l: usize)
     requires { (l < 4) × (length table.old ≡ 512) × (length ups.now ≡ 128) }
     ensures { Stored ups.now table.old table.new l 128 }
 {
-    let mut i: usize = 0;
-    while i < 128 {
-        table[128 * l + i] = ups[i];
-        i += 1;
-    }
+    let at = 128 * l;
+    table[at..at + 128].copy_from_slice(ups);
 }
 
 // Put the entries of a level into the table.
@@ -289,12 +258,8 @@ fn copy_level(table: &mut [u64], l: usize)
     requires { (l < 3) × (length table.old ≡ 512) }
     ensures { Copied table.old table.new l 128 }
 {
-    let mut i: usize = 0;
-    while i < 128 {
-        let at = 128 * l + i;
-        table[at + 128] = table[at];
-        i += 1;
-    }
+    let at = 128 * l;
+    table.copy_within(at..at + 128, at + 128);
 }
 
 // The entries of a level, one way or the other.
@@ -304,15 +269,11 @@ fn next_level(table: &mut [u64], g: Grammar, e: Pair, l: usize)
     requires upto { Upto (rules_of g) e table.old l }
     ensures { Upto (rules_of g) e table.new (l + 1) }
 {
-    if l == 0 {
-        put_level(table, g, e, l);
-        return;
-    }
-    if unranked(g, l) {
+    if 0 < l && unranked(g, l) {
         copy_level(table, l - 1);
-        return;
+    } else {
+        put_level(table, g, e, l);
     }
-    put_level(table, g, e, l);
 }
 
 // Fill the table of chains; `e` is the pair of the empty word.
@@ -321,9 +282,7 @@ pub fn chains(table: &mut [u64], g: Grammar, e: Pair)
     requires formed { Formed g }
     ensures { Chains (rules_of g) e table.new }
 {
-    let mut l: usize = 0;
-    while l < 4 {
+    for l in 0usize..4 {
         next_level(table, g, e, l);
-        l += 1;
     }
 }

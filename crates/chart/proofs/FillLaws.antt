@@ -11,7 +11,9 @@ use Rattle.sets.specs.Sets.{In}
 use Rattle.grammar.specs.declared.Clause.{Clause}
 use Rattle.grammar.specs.Trees.{Rules, Derives, TwoTrees}
 use Rattle.grammar.specs.SpanSheet.{part, pair_at, first_word, second_word}
+use Rattle.marks.specs.declared.Draft.{Draft}
 use Rattle.marks.specs.declared.SpanMarks.{SpanMarks}
+use Rattle.marks.proofs.DraftLaws.{drafted_length}
 use Rattle.marks.specs.Half.{Half}
 use Rattle.marks.specs.Marked.{Marked}
 use Rattle.spans.specs.Changes.{Kept, WrotePair}
@@ -22,12 +24,21 @@ use Rattle.tables.specs.Tables.Again.{apart, below}
 use Rattle.joins.specs.declared.Tally.{Tally}
 use Rattle.joins.specs.Passes.{Leaves, Saturated}
 use Rattle.tables.specs.Settled.{Settled, Ground}
-use Rattle.chart.specs.Filling.{Closed, Given}
+use Rattle.chart.specs.Filling.{Whole, Closed, Given}
 use Rattle.chart.specs.Openness.{anything, Open}
 use Rattle.joins.proofs.PassLaws.{inner_from, passes_from}
 use Rattle.joins.proofs.Coverage.{each_found, again_found}
 use Rattle.tables.proofs.Views.{tokens_marks, stand_view, again_view}
 use Rattle.grammar.specs.Distinct.{Distinct}
+
+-- a draft that counts no more tokens than its array has places
+pub whole : {N : ℕ} (d : Draft N) → length d.tokens ≡ N → N ≤ 64 → d.count ≤ N
+    → d.known ≤ d.count → Whole d
+whole d long most few inner = record {
+  few = omega arith;
+  long = drafted_length d long few;
+  inner = inner;
+}
 
 -- ---- a word of the pair p is as it was, where the pair is another
 

@@ -10,7 +10,7 @@ use Rattle.tables.specs.Tables.{One, Two}
 use Rattle.tables.specs.Settled.{Settled}
 
 -- the draft is as long as its count says, and no more of it is known
-pub record Whole (d : Draft) : Type 0 where
+pub record Whole {N : ℕ} (d : Draft N) : Type 0 where
   pub few : d.count ≤ 64
   pub long : length (drafted d) ≡ d.count
   pub inner : d.known ≤ d.count

@@ -15,7 +15,7 @@ use Rattle.grammar.specs.Trees.{Rules}
 use Rattle.tables.specs.Tables.{no_rule, rule}
 use Rattle.cuts.specs.declared.Pair.{Pair}
 use Rattle.cuts.specs.declared.Masks.{Masks}
-use Rattle.cuts.specs.declared.Hits.TheVariants as Hits
+use Rattle.grammar.specs.declared.Verdict.TheVariants as Verdict
 use Rattle.cuts.specs.Counts.{More}
 use Rattle.cuts.specs.Counts.More.{apart, below}
 use Rattle.cuts.specs.Cuts.{CutFits, CutBelow, CutStand, CutCounts}
@@ -115,7 +115,7 @@ module _ (rows cols : List ℕ) (p : ℕ) (w : Masks) (g : Rules) where
       (let z : m + d + 1 ≡ m + suc d = omega arith in z)
       (⊎_elim
       (λ x. cut_more rows cols p w g (m + d) t t
-      (record { hits = Hits.None; tells = no_fit (rule g (m + d)).clause x; adds = refl }) r)
+      (record { hits = Verdict.None; tells = no_fit (rule g (m + d)).clause x; adds = refl }) r)
       (λ x. cut_skip rows cols p w g (m + d) t x r)
       (n (m + d) (omega arith) (omega arith)))
 

@@ -32,23 +32,23 @@ pub fn empty_pair(g: Grammar) -> Pair
 {
     let k = first_marks(0, Column(0));
     let b = leaves(g, k, 0);
-    let t = saturated(b, g, k, 0, 0, 0);
+    let t = saturated(b, g, k, Pair { one: 0, two: 0 }, 0);
     Pair {
         one: t.one,
         two: t.two,
     }
 }
 
-// The pair of a token with the terminal `x` in the column `c`; the empty word's is `one` and `two`.
-fn token_pair(g: Grammar, x: u8, c: Column, one: u64, two: u64) -> Pair
+// The pair of a token with the terminal `x` in the column `c`; the empty word's is `e`.
+fn token_pair(g: Grammar, x: u8, c: Column, e: Pair) -> Pair
     requires formed { Formed g }
-    requires empty_pair { EmptyPair (rules_of g) one two }
+    requires empty_pair { EmptyPair (rules_of g) e.one e.two }
     ensures { Leaf (rules_of g) x result.one result.two }
 {
     let k = first_marks(x, c);
     let b = leaves(g, k, 1);
-    let w = link_rules(g, one);
-    let t = saturated(b, w, k, one, two, 1);
+    let w = link_rules(g, e.one);
+    let t = saturated(b, w, k, e, 1);
     Pair {
         one: t.one,
         two: t.two,
@@ -61,29 +61,27 @@ pub fn leaf_pair(g: Grammar, x: u8, one: u64, two: u64) -> Pair
     requires empty_pair { EmptyPair (rules_of g) one two }
     ensures { Leaf (rules_of g) x result.one result.two }
 {
-    token_pair(g, x, Column(0), one, two)
+    token_pair(g, x, Column(0), Pair { one, two })
 }
 
 // The first token that has the terminal of the token at i.
-fn first_like(d: Draft, i: usize) -> usize
+fn first_like(d: Draft<64>, i: usize) -> usize
     requires { (i < d.count) × (d.count ≤ 64) }
     ensures { (result ≤ i) × ((token_at (drafted d) result).terminal
         ≡ (token_at (drafted d) i).terminal) }
 {
     let a = d.tokens[i];
-    let mut j: usize = 0;
-    while j < i {
+    for j in 0..i {
         let t = d.tokens[j];
         if t.terminal == a.terminal {
             return j;
         }
-        j += 1;
     }
     i
 }
 
 // The pair of the token at i, those of the tokens before it being written; the empty word's is `e`.
-pub fn leaf_at(words: &[u64], d: Draft, g: Grammar, e: Pair, i: usize) -> Pair
+pub fn leaf_at(words: &[u64], d: Draft<64>, g: Grammar, e: Pair, i: usize) -> Pair
     requires i_lt_count { (i < d.count) × (d.count ≤ 64) }
     requires count_in_bounds { 2 * pairs d.count ≤ length words.now }
     requires formed { Formed g }
@@ -101,12 +99,11 @@ pub fn leaf_at(words: &[u64], d: Draft, g: Grammar, e: Pair, i: usize) -> Pair
         };
     }
     let t = d.tokens[i];
-    let c = t.column;
-    token_pair(g, t.terminal, c, e.one, e.two)
+    token_pair(g, t.terminal, t.column, e)
 }
 
 // Write the pairs of the empty word and of each token of the draft.
-pub fn fill_leaves(words: &mut [u64], d: Draft, g: Grammar)
+pub fn fill_leaves(words: &mut [u64], d: Draft<64>, g: Grammar)
     requires count_bound { d.count ≤ 64 }
     requires count_in_bounds { 2 * pairs d.count ≤ length words.old }
     requires formed { Formed g }
@@ -116,12 +113,10 @@ pub fn fill_leaves(words: &mut [u64], d: Draft, g: Grammar)
     let n = d.count;
     let e = empty_pair(g);
     write(words, 0, e.one, e.two);
-    let mut i: usize = 0;
-    while i < n {
+    for i in 0..n {
         let l = leaf_at(words, d, g, e, i);
         let p = pair_at(n, i, 1);
         write(words, p, l.one, l.two);
-        i += 1;
     }
 }
 
@@ -207,12 +202,13 @@ pub fn begin(words: &[u64], rows: &mut [u64], cols: &mut [u64], n: usize, start:
 
 // Settle the spans of two tokens or more that begin at `start` and end past `from`. Their marks,
 // and with them the least column on later lines, are carried along, a token at a time.
+// Kept: beside those of refilling and range_charts, as they share the loop's head and nothing else.
 pub fn fill_start(
     words: &mut [u64],
     rows: &mut [u64],
     cols: &mut [u64],
     table: &[u64],
-    d: Draft,
+    d: Draft<64>,
     g: Grammar,
     b: BinaryRules,
     e: Pair,
@@ -234,23 +230,19 @@ pub fn fill_start(
     ensures begins_2 { Begins words.new e }
 {
     let n = d.count;
-    let known = d.known;
     let a = d.tokens[start];
-    let c = a.column;
-    let mut k = first_marks(a.terminal, c);
+    let mut k = first_marks(a.terminal, a.column);
     begin(words, rows, cols, n, start);
-    let mut len: usize = 1;
-    while start + len < n {
+    for len in 1..n - start {
         let at = start + len;
         let z = d.tokens[at - 1];
         let t = d.tokens[at];
-        k = with_next(k, a, z, t, len, at, known);
-        len += 1;
-        if start + len <= from {
-            load(words, rows, cols, n, start, len);
+        k = with_next(k, a, z, t, len, at, d.known);
+        if start + len < from {
+            load(words, rows, cols, n, start, len + 1);
             continue;
         }
-        close(words, rows, cols, table, n, g, b, e, k, start, len);
+        close(words, rows, cols, table, n, g, b, e, k, start, len + 1);
     }
 }
 
@@ -262,10 +254,8 @@ fn load_start(words: &[u64], rows: &mut [u64], cols: &mut [u64], n: usize, start
     ensures { Columns words.now n start cols.new }
 {
     begin(words, rows, cols, n, start);
-    let mut len: usize = 2;
-    while start + len <= n {
+    for len in 2..n - start + 1 {
         load(words, rows, cols, n, start, len);
-        len += 1;
     }
 }
 
@@ -276,9 +266,7 @@ fn load_from(words: &[u64], rows: &mut [u64], cols: &mut [u64], n: usize, to: us
     requires columns { Columns words.now n n cols.old }
     ensures { Columns words.now n to cols.new }
 {
-    let mut start = n;
-    while to < start {
-        start -= 1;
+    for start in (to..n).rev() {
         load_start(words, rows, cols, n, start);
     }
 }
@@ -289,7 +277,7 @@ fn fill_starts(
     rows: &mut [u64],
     cols: &mut [u64],
     table: &[u64],
-    d: Draft,
+    d: Draft<64>,
     g: Grammar,
     b: BinaryRules,
     e: Pair,
@@ -306,9 +294,7 @@ fn fill_starts(
         d.count
         from 0 }
 {
-    let mut start = to;
-    while 0 < start {
-        start -= 1;
+    for start in (0..to).rev() {
         fill_start(words, rows, cols, table, d, g, b, e, from, start);
     }
 }
@@ -316,7 +302,7 @@ fn fill_starts(
 // Fill the span sheet of the draft anew, but for the spans that end at or before the token `from`
 // and those that begin at or past the token `to`: no token of these has changed. The pairs of the
 // empty word and of single tokens are given, and where there is one token at most, that is all.
-pub fn fill(words: &mut [u64], d: Draft, g: Grammar, from: usize, to: usize)
+pub fn fill(words: &mut [u64], d: Draft<64>, g: Grammar, from: usize, to: usize)
     requires count_bound { (d.count ≤ 64) × (d.known ≤ d.count) }
     requires count_in_bounds { 2 * pairs d.count ≤ length words.old }
     requires formed { Formed g }
@@ -342,7 +328,7 @@ pub fn fill(words: &mut [u64], d: Draft, g: Grammar, from: usize, to: usize)
 }
 
 // Fill all of the span sheet of the draft, which is known.
-fn fill_all(words: &mut [u64], d: Draft, g: Grammar)
+fn fill_all(words: &mut [u64], d: Draft<64>, g: Grammar)
     requires count_bound { (d.count ≤ 64) × (d.known ≡ d.count) }
     requires count_in_bounds { 2 * pairs d.count ≤ length words.old }
     requires formed { Formed g }

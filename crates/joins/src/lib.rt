@@ -3,7 +3,6 @@
 #![tactic(auto)]
 
 ghost use Rattle.std.specs.Prelude.{◌⊎◌, ◌≡◌, ◌<◌};
-ghost use Rattle.sets.specs.Says.{Says};
 ghost use Rattle.sets.specs.Sets.{In};
 ghost use Rattle.grammar.specs.Content.{SmallRule};
 ghost use Rattle.marks.specs.Marked.{UnaryBy};
@@ -11,6 +10,7 @@ ghost use Rattle.joins.specs.Passes.{Doubles, Found, Took};
 ghost use Rattle.joins.specs.Passes.{no_tally};
 ghost use Rattle.joins.specs.Passes.{LeafFits, Beside};
 
+use cuts::Pair;
 use grammar::{Clause, Rule, UnaryMark};
 use marks::{SpanMarks, allows_atom, allows_unary};
 use sets::{has, with};
@@ -30,13 +30,11 @@ fn doubled(t: Tally, a: u8, again: bool) -> u64
     requires { a < 64 }
     ensures { Doubles t a again result }
 {
-    if again {
-        return with(t.two, a);
+    if again || has(t.seen, a) {
+        with(t.two, a)
+    } else {
+        t.two
     }
-    if has(t.seen, a) {
-        return with(t.two, a);
-    }
-    t.two
 }
 
 // The tally with a rule for `a` besides; `again` says that a word below has two trees.
@@ -44,17 +42,11 @@ fn found(t: Tally, a: u8, again: bool) -> Tally
     requires { a < 64 }
     ensures { Found t a again result }
 {
-    let seen = with(t.seen, a);
-    let one = with(t.one, a);
-    let two = doubled(t, a, again);
-    Tally { seen, one, two }
-}
-
-// Both words of a pair: what has a tree, and what has two.
-#[derive(Clone, Copy)]
-struct Pair {
-    one: u64,
-    two: u64,
+    Tally {
+        seen: with(t.seen, a),
+        one: with(t.one, a),
+        two: doubled(t, a, again),
+    }
 }
 
 // Try a binary clause `b` `e` for `a` over two words that have these pairs.
@@ -91,20 +83,16 @@ pub fn try_leaf(t: Tally, r: Rule, k: SpanMarks, len: usize) -> Tally
     requires { SmallRule r }
     ensures { Took (LeafFits k len r.clause) ⊥ r.left t result }
 {
-    let c = r.clause;
-    match c {
+    match r.clause {
         Clause::Empty => { if len == 0 { found(t, r.left, false) } else { t } }
         Clause::Atom(a, b) => {
-            if len != 1 {
-                return t;
+            if len == 1 && allows_atom(k, a, b) {
+                found(t, r.left, false)
+            } else {
+                t
             }
-            if !allows_atom(k, a, b) {
-                return t;
-            }
-            found(t, r.left, false)
         }
-        Clause::Unary(_, _) => t,
-        Clause::Binary(_, _, _) => t,
+        Clause::Unary(_, _) | Clause::Binary(_, _, _) => t,
     }
 }
 
@@ -122,13 +110,12 @@ pub fn try_unary(t: Tally, a: u8, b: u8, m: UnaryMark, k: SpanMarks) -> Tally
     found(t, a, has(t.two, b))
 }
 
-// Try a binary clause over the span and the empty word, whose pair is `one` and `two`; the span is
-// of `len` tokens.
-pub fn try_beside(t: Tally, a: u8, b: u8, e: u8, one: u64, two: u64, len: usize) -> Tally
+// Try a binary clause over the span and the empty word, whose pair is `empty`; the span is of `len`
+// tokens.
+pub fn try_beside(t: Tally, a: u8, b: u8, e: u8, empty: Pair, len: usize) -> Tally
     requires { (a < 64) × (b < 64) × (e < 64) }
-    ensures { Beside one two len a b e t result }
+    ensures { Beside empty.one empty.two len a b e t result }
 {
-    let empty = Pair { one, two };
     let whole = Pair {
         one: t.one,
         two: t.two,
@@ -142,11 +129,4 @@ pub fn try_beside(t: Tally, a: u8, b: u8, e: u8, one: u64, two: u64, len: usize)
         two: u.two,
     };
     try_join(u, a, b, e, grown, empty)
-}
-
-// Are the words as they were?
-pub fn unchanged(f: u64, g: u64, a: u64, b: u64) -> bool
-    ensures { Says result ((a ≡ f) × (b ≡ g)) }
-{
-    if a == f { b == g } else { false }
 }

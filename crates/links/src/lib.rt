@@ -2,14 +2,15 @@
 // span on one side.
 #![tactic(auto)]
 
-ghost use Rattle.std.specs.Prelude.{◌<◌, length};
+ghost use Rattle.std.specs.Prelude.{length};
 ghost use Rattle.sets.specs.Says.{Says};
 ghost use Rattle.grammar.specs.Content.{rules_of, SmallClause, SmallRule, Formed};
 ghost use Rattle.joins.specs.Passes.{Leaves, WholeSide, Pass, Saturated};
 ghost use Rattle.links.specs.LinkRules.{Idle, Ruled, LinkRules};
 
+use cuts::Pair;
 use grammar::{Clause, Grammar, Rule};
-use joins::{Tally, blank, try_beside, try_leaf, try_unary, unchanged};
+use joins::{Tally, blank, try_beside, try_leaf, try_unary};
 use marks::SpanMarks;
 use sets::has;
 
@@ -19,11 +20,9 @@ pub fn leaves(g: Grammar, k: SpanMarks, len: usize) -> Tally
     ensures { Leaves k len (rules_of g) (length (rules_of g)) result }
 {
     let mut t = blank();
-    let mut i: usize = 0;
-    while i < g.count {
+    for i in 0..g.count {
         let r = g.rules[i];
         t = try_leaf(t, r, k, len);
-        i += 1;
     }
     t
 }
@@ -34,15 +33,9 @@ fn one_sided(c: Clause, one: u64) -> bool
     ensures { Says result (Idle one c) }
 {
     match c {
-        Clause::Empty => true,
-        Clause::Atom(_, _) => true,
+        Clause::Empty | Clause::Atom(_, _) => true,
         Clause::Unary(_, _) => false,
-        Clause::Binary(b, e, _) => {
-            if has(one, b) {
-                return false;
-            }
-            if has(one, e) { false } else { true }
-        }
+        Clause::Binary(b, d, _) => !has(one, b) && !has(one, d),
     }
 }
 
@@ -53,12 +46,9 @@ pub fn link_rules(g: Grammar, one: u64) -> Grammar
 {
     let mut rules = g.rules;
     let mut m: usize = 0;
-    let mut i: usize = 0;
-    while i < g.count {
+    for i in 0..g.count {
         let r = g.rules[i];
-        let c = r.clause;
-        i += 1;
-        if one_sided(c, one) {
+        if one_sided(r.clause, one) {
             continue;
         }
         rules[m] = r;
@@ -67,39 +57,35 @@ pub fn link_rules(g: Grammar, one: u64) -> Grammar
     Grammar { rules, count: m }
 }
 
-// Try a rule where it has the whole span on one side; the empty word's pair is `one` and `two`.
-fn try_link(t: Tally, r: Rule, k: SpanMarks, one: u64, two: u64, len: usize) -> Tally
+// Try a rule where it has the whole span on one side; the empty word's pair is `e`.
+fn try_link(t: Tally, r: Rule, k: SpanMarks, e: Pair, len: usize) -> Tally
     requires { SmallRule r }
-    ensures { WholeSide one two k len r.left r.clause t result }
+    ensures { WholeSide e.one e.two k len r.left r.clause t result }
 {
-    let c = r.clause;
-    match c {
-        Clause::Empty => t,
-        Clause::Atom(_, _) => t,
+    match r.clause {
+        Clause::Empty | Clause::Atom(_, _) => t,
         Clause::Unary(b, m) => try_unary(t, r.left, b, m, k),
-        Clause::Binary(b, e, _) => try_beside(t, r.left, b, e, one, two, len),
+        Clause::Binary(b, d, _) => try_beside(t, r.left, b, d, e, len),
     }
 }
 
 // A pass over the rules, the last one first: it reads what it adds.
-fn pass(t: Tally, w: Grammar, k: SpanMarks, one: u64, two: u64, len: usize) -> Tally
+fn pass(t: Tally, w: Grammar, k: SpanMarks, e: Pair, len: usize) -> Tally
     requires { Ruled w }
-    ensures { Pass one two k len (rules_of w) t 0 result }
+    ensures { Pass e.one e.two k len (rules_of w) t 0 result }
 {
     let mut u = t;
-    let mut i = w.count;
-    while 0 < i {
-        i -= 1;
+    for i in (0..w.count).rev() {
         let r = w.rules[i];
-        u = try_link(u, r, k, one, two, len);
+        u = try_link(u, r, k, e, len);
     }
     u
 }
 
 // Passes from the inner tally `b` on, until one adds nothing.
-fn passes(b: Tally, w: Grammar, k: SpanMarks, one: u64, two: u64, len: usize) -> Tally
+fn passes(b: Tally, w: Grammar, k: SpanMarks, e: Pair, len: usize) -> Tally
     requires { Ruled w }
-    ensures { Saturated one two k len (rules_of w) b result }
+    ensures { Saturated e.one e.two k len (rules_of w) b result }
 {
     let mut t = b;
     loop {
@@ -108,8 +94,8 @@ fn passes(b: Tally, w: Grammar, k: SpanMarks, one: u64, two: u64, len: usize) ->
             one: t.one,
             two: t.two,
         };
-        let u = pass(s, w, k, one, two, len);
-        if unchanged(t.one, t.two, u.one, u.two) {
+        let u = pass(s, w, k, e, len);
+        if u.one == t.one && u.two == t.two {
             return t;
         }
         t = u;
@@ -117,12 +103,12 @@ fn passes(b: Tally, w: Grammar, k: SpanMarks, one: u64, two: u64, len: usize) ->
 }
 
 // The same, but where nothing stands at first: then nothing ever does.
-pub fn saturated(b: Tally, w: Grammar, k: SpanMarks, one: u64, two: u64, len: usize) -> Tally
+pub fn saturated(b: Tally, w: Grammar, k: SpanMarks, e: Pair, len: usize) -> Tally
     requires { Ruled w }
-    ensures { Saturated one two k len (rules_of w) b result }
+    ensures { Saturated e.one e.two k len (rules_of w) b result }
 {
     if b.one == 0 {
         return b;
     }
-    passes(b, w, k, one, two, len)
+    passes(b, w, k, e, len)
 }

@@ -7,27 +7,13 @@ use Prim.Native.Nat.{ℕ}
 use Rattle.sets.specs.Sets.{In}
 use Rattle.sets.proofs.Sets.{insert_same, insert_keeps, insert_only}
 use Rattle.grammar.specs.declared.Rule.{Rule}
-use Rattle.grammar.specs.declared.Clause.{Clause}
 use Rattle.grammar.specs.Trees.{Rules}
 use Rattle.acyclic.specs.Exact.{Exactly}
 use Rattle.acyclic.specs.Passes.{Extended}
 use Rattle.acyclic.proofs.Growth.{grown_with, grown_both}
 use Rattle.reachable_rules.specs.Reach.{Reached, start, by_unary, by_left, by_right}
-use Rattle.reachable_rules.specs.Steps.{HasPart, AddsParts}
+use Rattle.reachable_rules.specs.Steps.{AddsParts}
 use Rattle.sets.specs.Insertion.{insert}
-
-part_reached : {g : Rules} (A : ℕ) (c : Clause) (Y : ℕ)
-    → Memᴰ (record { left = A; clause = c }) g → Reached g A → HasPart c Y → Reached g Y
-part_reached A Clause.Empty Y m h p = absurd p
-part_reached A (Clause.Atom a b) Y m h p = absurd p
-part_reached A (Clause.Unary B k) Y m h p = subst (Reached _) p (by_unary k h m)
-part_reached A (Clause.Binary B C k) Y m h (inl p) = subst (Reached _) p (by_left C k h m)
-part_reached A (Clause.Binary B C k) Y m h (inr p) = subst (Reached _) p (by_right B k h m)
-
-pub reach_sound : {g : Rules} (s : ℕ) → ((Y : ℕ) → In s Y → Reached g Y) → (r : Rule)
-    → Memᴰ r g → (Y : ℕ) → AddsParts s r Y → Reached g Y
-reach_sound {g} s h r m Y t = part_reached r.left r.clause Y m
-    (⊎_elim (λ e. subst (Reached g) (sym e) start) (h r.left) t.0) t.1
 
 -- s is closed
 module _ {g : Rules} {s : ℕ} (shut : (r : Rule) → Memᴰ r g → (Y : ℕ) → AddsParts s r Y

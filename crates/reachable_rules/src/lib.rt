@@ -2,11 +2,13 @@
 #![tactic(auto)]
 
 ghost use Rattle.acyclic.specs.Exact.{Exactly};
-ghost use Rattle.acyclic.specs.Passes.{Extended, RulesPassed};
+ghost use Rattle.acyclic.specs.Passes.{Extended};
 ghost use Rattle.grammar.specs.Content.{rules_of, SmallClause, SmallRule, Formed};
 ghost use Rattle.reachable_rules.specs.Reach.{Reached, Trimmed};
+ghost use Rattle.reachable_rules.specs.Sound.{reach_sound};
 ghost use Rattle.reachable_rules.specs.Steps.{HasPart, AddsParts, Picked};
 
+use acyclic::{Adding, closed};
 use grammar::{Clause, Grammar, Rule};
 use sets::{has, with};
 
@@ -42,35 +44,30 @@ fn spread(set: u64, r: Rule) -> u64
     set
 }
 
-// One pass over the rules.
-fn reach_pass(g: Grammar, set: u64) -> u64
-    requires { Formed g }
-    ensures { RulesPassed AddsParts (Reached (rules_of g)) (rules_of g) g.count set result }
-{
-    let count = g.count;
-    let mut next = set;
-    let mut p: usize = 0;
-    while p < count {
-        let rule = g.rules[p];
-        next = spread(next, rule);
-        p += 1;
+// Towards the nonterminals that 0 reaches.
+#[derive(Clone, Copy)]
+struct Reaching;
+
+impl Adding for Reaching {
+    ghost adds = { λ x. AddsParts };
+
+    ghost aim = { λ x. Reached };
+
+    ghost fits = { λ x g. Unit {0} };
+
+    ghost sound = { λ x g f. reach_sound };
+
+    fn with_rule(&self, set: u64, r: Rule) -> u64 {
+        spread(set, r)
     }
-    next
 }
 
-// The nonterminals that 0 reaches: passes until one adds nothing.
+// The nonterminals that 0 reaches.
 fn reached(g: Grammar) -> u64
     requires { Formed g }
     ensures { Exactly result (Reached (rules_of g)) }
 {
-    let mut set: u64 = 0;
-    loop {
-        let next = reach_pass(g, set);
-        if next == set {
-            return with(set, 0);
-        }
-        set = next;
-    }
+    with(closed(g, &Reaching), 0)
 }
 
 // The rules whose left is in the set, in their order.
@@ -80,10 +77,8 @@ fn pick(g: Grammar, set: u64) -> Grammar
 {
     let mut rules = g.rules;
     let mut m: usize = 0;
-    let mut i: usize = 0;
-    while i < g.count {
+    for i in 0..g.count {
         let r = g.rules[i];
-        i += 1;
         if !has(set, r.left) {
             continue;
         }

@@ -6,8 +6,8 @@ use mathlib.Core.Logic.{◌⊎◌, inl, inr, ⊎_elim, ◌↔◌}
 use Prim.Native.Nat.{ℕ, ◌+◌, ◌-◌, ◌*◌, ◌≤◌, ◌<◌}
 use native.Mathlib.Omega.{arith}
 use native.Mathlib.Decide.{ℕ_discrete, dec_lt}
-use lib.ListN.{length, get_or, set, length-set, take, drop, length-drop}
-use lib.Seq.{get_or-take, get_or-drop, get_or-set_same, get_or-set_other, length-take-le, take_at}
+use lib.ListN.{length, get_or, take, drop, length-drop}
+use lib.Seq.{get_or-take, get_or-drop, length-take-le, take_at}
 use lib.Seq.{ext_get_or}
 use borrow.Rule.Slice.PartMut.{put_mid, same_len_mid}
 use Rattle.sets.specs.Sets.{In}
@@ -721,26 +721,6 @@ mirror_empty {ws} {ws'} {kept} {n} w m = record {
     )
 
 -- ---- words are wiped
-
-pub wiped_none : (ws : List ℕ) (from : ℕ) → Wiped ws ws from 0
-wiped_none ws from =
-    record { size = refl; zeros = λ q a b. absurd (omega arith); else = λ q o. refl }
-
-pub wiped_more : {ws ws' : List ℕ} {from m : ℕ} → from + m < length ws' → Wiped ws ws' from m
-    → Wiped ws (set ws' (from + m) 0) from (m + 1)
-wiped_more {ws} {ws'} {from} {m} h w = record {
-  size = length-set ws' (from + m) 0 ∙ w.size;
-  zeros = λ q a b. go q a b (ℕ_discrete q (from + m));
-  else = λ q o. get_or-set_other ws' (from + m) q 0 0
-      (λ e. ⊎_elim (λ l. omega arith) (λ l. omega arith) o)
-      ∙ w.else q (⊎_elim inl (λ l. inr (omega arith)) o);
-}
-  where
-    go : (q : ℕ) → from ≤ q → q < from + (m + 1) → Dec (q ≡ from + m)
-        → get_or (set ws' (from + m) 0) q 0 ≡ 0
-    go q a b (yes e) = ap (λ (x : ℕ). get_or (set ws' (from + m) 0) x 0) e
-        ∙ get_or-set_same ws' (from + m) 0 0 h
-    go q a b (no e) = get_or-set_other ws' (from + m) q 0 0 e ∙ w.zeros q a (omega arith)
 
 -- ---- a sheet is opened: all its words are 0, and so are rows and columns
 

@@ -19,30 +19,22 @@ ghost use Rattle.refilling.specs.Kept.{rule_at_of, column_at, kept_for, KeptRule
 ghost use Rattle.refilling.specs.Kept.{Prepared, Mirrored, Suits};
 ghost use Rattle.refilling.specs.Turning.{SetRule, SetRules, Wiped, HasBits, TurnBits};
 ghost use Rattle.refilling.specs.Turning.{Turned, TurnedRow, SameRules};
-ghost use Rattle.refilling.specs.Short.{wide};
 
 use chains::{chains, level_of};
-use cuts::{Masks, Pair, binary_rules, cut_masks, lowest, try_rule, unite};
+use cuts::{Masks, Pair, binary_rules, cut_masks, members_of, try_rule, unite};
 use filling::empty_pair;
-use grammar::{BinaryMark, Clause, Grammar, Rule, Token};
-use marks::{SpanMarks, first_marks, with_next};
+use grammar::{BinaryMark, Clause, Grammar, Rule};
+use marks::{Draft, SpanMarks, first_marks, with_next};
 use sets::has;
 use spans::{clear, in_second, pair_at, size, write};
 
 // The words that are kept for 7 tokens.
 pub const KEPT_SHORT: usize = 3074;
 
-// A draft of at most 7 tokens: a search makes one for each fill, and copies it for each start.
-#[derive(Clone, Copy)]
-pub struct ShortDraft {
-    pub tokens: [Token; 7],
-    pub count: usize,
-    pub known: usize,
-}
-
 // ---- rules as words: four for each B rule
 
 // The number of a mark.
+// Kept: by number, as the lent words in which the rules stand hold numbers alone.
 fn mark_number(m: BinaryMark) -> u64
     ensures { result ≡ mark_number m }
 {
@@ -104,11 +96,9 @@ fn set_rules(kept: &mut [u64], g: Grammar)
     requires in_bounds { 1026 ≤ length kept.old }
     ensures { SetRules (rules_of g) kept.old kept.new g.count }
 {
-    let mut i: usize = 0;
-    while i < g.count {
+    for i in 0..g.count {
         let r = g.rules[i];
         set_rule(kept, i, r);
-        i += 1;
     }
 }
 
@@ -147,10 +137,8 @@ fn try_kept(
         result }
 {
     let mut u = t;
-    let mut rest = set;
-    while rest != 0 {
-        let r = rule_at(kept, g, base + (lowest(rest) as usize));
-        rest = rest & (rest - 1);
+    for i in members_of(set) {
+        let r = rule_at(kept, g, base + i as usize);
         if has(u.two, r.left) {
             continue;
         }
@@ -199,11 +187,9 @@ fn turn_bits(words: &mut [u64], p: usize, set: u64, c: u8)
     requires { (c < 64) × (p + 127 ≤ length words.old) }
     ensures { TurnBits words.old words.new p set c }
 {
-    let mut rest = set;
-    while rest != 0 {
-        let at = p + 2 * (lowest(rest) as usize);
+    for a in members_of(set) {
+        let at = p + 2 * a as usize;
         words[at] = words[at] ^ (1u64 << c);
-        rest = rest & (rest - 1);
     }
 }
 
@@ -276,42 +262,39 @@ pub fn close(
 
 // Settle the spans of two tokens or more that begin at `start` and end past `from`. Their marks are
 // carried along, a token at a time.
+// Kept: beside those of filling and range_charts, as they share the loop's head and nothing else.
 fn fill_start(
     words: &mut [u64],
     kept: &mut [u64],
-    d: ShortDraft,
+    d: Draft<7>,
     g: Grammar,
     from: usize,
     start: usize,
 )
-    requires whole { Whole (wide d) × (d.count ≤ 7) × (start < d.count) }
+    requires whole { Whole d × (d.count ≤ 7) × (start < d.count) }
     requires count_in_bounds { 2 * pairs d.count ≤ length words.old }
     requires formed { Formed g × Suits (rules_of g) words.old kept.old }
     requires mirrored { Mirrored (rules_of g) d.count words.old kept.old }
-    requires filled { Filled words.old (rules_of g) (half (wide d)) d.count from (start + 1)
+    requires filled { Filled words.old (rules_of g) (half d) d.count from (start + 1)
         (d.count + 1) }
-    ensures filled_from { FilledFrom words.old words.new (rules_of g) (half (wide d))
+    ensures filled_from { FilledFrom words.old words.new (rules_of g) (half d)
         d.count
         from start }
     ensures suits { Suits (rules_of g) words.new kept.new }
     ensures mirrored_2 { Mirrored (rules_of g) d.count words.new kept.new }
 {
     let n = d.count;
-    let known = d.known;
     let a = d.tokens[start];
-    let c = a.column;
-    let mut k = first_marks(a.terminal, c);
-    let mut len: usize = 1;
-    while start + len < n {
+    let mut k = first_marks(a.terminal, a.column);
+    for len in 1..n - start {
         let at = start + len;
         let z = d.tokens[at - 1];
         let t = d.tokens[at];
-        k = with_next(k, a, z, t, len, at, known);
-        len += 1;
-        if start + len <= from {
+        k = with_next(k, a, z, t, len, at, d.known);
+        if at < from {
             continue;
         }
-        close(words, kept, g, n, k, start, len);
+        close(words, kept, g, n, k, start, len + 1);
     }
 }
 
@@ -320,11 +303,7 @@ fn wipe(words: &mut [u64], from: usize, m: usize)
     requires { from + m ≤ length words.old }
     ensures { Wiped words.old words.new from m }
 {
-    let mut i: usize = 0;
-    while i < m {
-        words[from + i] = 0;
-        i += 1;
-    }
+    words[from..from + m].fill(0);
 }
 
 // Begin the span sheets of n tokens.
@@ -374,26 +353,17 @@ pub fn put_leaf(
 // Fill the span sheet of the draft anew, but for the spans that end at or before the token `from`
 // and those that begin at or past the token `to`: no token of these has changed. The pairs of the
 // empty word and of single tokens are given.
-pub fn refill(
-    words: &mut [u64],
-    kept: &mut [u64],
-    d: ShortDraft,
-    g: Grammar,
-    from: usize,
-    to: usize,
-)
+pub fn refill(words: &mut [u64], kept: &mut [u64], d: Draft<7>, g: Grammar, from: usize, to: usize)
     requires count_bound { (d.count ≤ 7) × (d.known ≤ d.count) }
     requires count_in_bounds { 2 * pairs d.count ≤ length words.old }
     requires formed { Formed g }
-    requires ready { Ready (rules_of g) (half (wide d)) d.count words.old from to }
+    requires ready { Ready (rules_of g) (half d) d.count words.old from to }
     requires mirrored { Mirrored (rules_of g) d.count words.old kept.old }
-    ensures charted { Charted words.old words.new (rules_of g) (half (wide d))
+    ensures charted { Charted words.old words.new (rules_of g) (half d)
         d.count }
     ensures mirrored_2 { Mirrored (rules_of g) d.count words.new kept.new }
 {
-    let mut start = to;
-    while 0 < start {
-        start -= 1;
+    for start in (0..to).rev() {
         fill_start(words, kept, d, g, from, start);
     }
 }
@@ -403,7 +373,7 @@ pub fn refill(
 pub fn no_two(
     words: &mut [u64],
     kept: &mut [u64],
-    d: ShortDraft,
+    d: Draft<7>,
     g: Grammar,
     from: usize,
     to: usize,
@@ -411,9 +381,9 @@ pub fn no_two(
     requires count_bound { (d.count ≤ 7) × (d.known ≤ d.count) }
     requires count_in_bounds { 2 * pairs d.count ≤ length words.old }
     requires formed { Formed g }
-    requires ready { Ready (rules_of g) (half (wide d)) d.count words.old from to }
+    requires ready { Ready (rules_of g) (half d) d.count words.old from to }
     requires mirrored { Mirrored (rules_of g) d.count words.old kept.old }
-    ensures settles { Settles result (rules_of g) (half (wide d)) d.count words.old
+    ensures settles { Settles result (rules_of g) (half d) d.count words.old
         words.new }
     ensures mirrored_2 { Mirrored (rules_of g) d.count words.new kept.new }
 {

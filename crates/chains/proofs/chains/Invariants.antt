@@ -1,10 +1,6 @@
-use Prim.Native.Nat.{◌-◌}
 use Rattle.grammar.specs.Content.{rules_of}
 use Rattle.chains.specs.Chains.{Upto}
 use Rattle.chains.proofs.chains.Given as goal
 
 abbrev pub invariant-loop-l : goal.invariant-loop-l
 invariant-loop-l l = Upto (rules_of l.g) l.e l.table l.l
-
-abbrev pub decreases-loop-l : goal.decreases-loop-l
-decreases-loop-l l = 4 - l.l

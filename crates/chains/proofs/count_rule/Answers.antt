@@ -1,4 +1,4 @@
-use mathlib.Core.Path.{refl, subst}
+use mathlib.Core.Path.{subst}
 use native.Mathlib.Omega.{arith}
 use Rattle.sets.proofs.Says.{fails}
 use Rattle.grammar.specs.Content.{SmallClause}
@@ -59,12 +59,6 @@ count-requires-in-Binary-2 c = let k = c.count-in-Binary.ensures in record {
     c.requires.seen_len.2,
   );
 }
-
-pub returns-in-Empty : goal.returns-in-Empty
-returns-in-Empty c = rw c.in-Empty.is (refl, refl)
-
-pub returns-in-Atom : goal.returns-in-Atom
-returns-in-Atom c = rw c.in-Atom.is (refl, refl)
 
 pub returns-in-Unary : goal.returns-in-Unary
 returns-in-Unary c = rw c.in-Unary.is (count_says (says_true

@@ -1,14 +1,11 @@
 use mathlib.Core.Path.{sym, ◌∙◌}
-use mathlib.Core.Logic.{inl, inr, ⊎_elim}
+use mathlib.Core.Logic.{inl, ⊎_elim}
 use Rattle.sets.proofs.Bits.{in_and}
 use Rattle.sets.proofs.Says.{true_not_false}
 use Rattle.chains.proofs.met.Goals as goal
 
-pub returns-then-again : goal.returns-then-again
-returns-then-again c = record { members = λ B. (λ x. (x, inr c.if-again.true), λ x. x.0) }
-
-pub returns : goal.returns
-returns c = record {
+pub returns-else-again : goal.returns-else-again
+returns-else-again c = record {
   members = λ B. (
     λ x. let y = (in_and _ _ B).0 x in
         (y.0, inl y.1),

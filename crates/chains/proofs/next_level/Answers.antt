@@ -13,7 +13,7 @@ returns-then-unranked c =
     let g = rules_of a.g in
     let v = c.copy_level in
     let d : a.l - 1 + 1 ≡ a.l =
-    omega (arith, c.if-l-eq0.false) in
+    omega (arith, c.if-l-gt0.true) in
     subst (λ (x : ℕ). Upto g a.e v.new.table (x + 1)) d
     (upto_copied g a.e (a.l - 1)
     (subst (λ (x : ℕ). Unranked x g (length g)) (sym d)

@@ -5,9 +5,7 @@ use Rattle.cuts.specs.Closure.{Unites}
 use Rattle.cuts.proofs.ClosureLaws.{Done}
 use Rattle.cuts.proofs.unite.Given as goal
 
-abbrev pub invariant-loop-rest : goal.invariant-loop-rest
-invariant-loop-rest l = ((A : ℕ) → In l.rest A → In l.inner.one A)
-    × Unites (words_of_of l.up l.p) (Done l.inner.one l.rest) (Done l.inner.two l.rest) l.t
-
-abbrev pub decreases-loop-rest : goal.decreases-loop-rest
-decreases-loop-rest l = l.rest
+abbrev pub invariant-loop-b : goal.invariant-loop-b
+invariant-loop-b l = ((A : ℕ) → In l.b-iterator.rest A → In l.inner.one A)
+    × Unites (words_of_of l.up l.p) (Done l.inner.one l.b-iterator.rest)
+    (Done l.inner.two l.b-iterator.rest) l.t

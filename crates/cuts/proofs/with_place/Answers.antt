@@ -2,18 +2,6 @@ use mathlib.Core.Logic.{inl, inr, ⊎_elim}
 use Rattle.sets.proofs.Sets.{insert_same, insert_keeps, insert_only}
 use Rattle.cuts.proofs.with_place.Goals as goal
 
-pub returns-in-Empty : goal.returns-in-Empty
-returns-in-Empty c = rw c.in-Empty.is
-    (record { keeps = λ j x. x; has = λ b. absurd b; only = λ j x. inl x })
-
-pub returns-in-Atom : goal.returns-in-Atom
-returns-in-Atom c = rw c.in-Atom.is
-    (record { keeps = λ j x. x; has = λ b. absurd b; only = λ j x. inl x })
-
-pub returns-in-Unary : goal.returns-in-Unary
-returns-in-Unary c = rw c.in-Unary.is
-    (record { keeps = λ j x. x; has = λ b. absurd b; only = λ j x. inl x })
-
 pub returns-in-Binary : goal.returns-in-Binary
 returns-in-Binary c = rw (c.with.ensures, c.in-Binary.is)
     (record {

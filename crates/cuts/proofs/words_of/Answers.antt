@@ -5,4 +5,4 @@ use Rattle.cuts.proofs.words_of.Goals as goal
 -- src/lib.rt:122:1
 pub returns : goal.returns
 returns c = let z = c.args in
-    ap (words_of_of z.words.now z.p) c.place.ensures
+    ap (words_of_of z.words.now z.p) c.wide.ensures

@@ -1,27 +1,19 @@
 use borrow.Author.Rules.{rules}
 use mathlib.Core.Path.{refl}
-use mathlib.Core.Path.{◌≡◌}
-use Prim.Native.Nat.{◌<◌, ◌≤◌}
+use Prim.Native.Nat.{◌<◌}
 use native.Mathlib.Omega.{arith}
-use lib.ListN.{length}
 use Rattle.grammar.specs.Content.{rules_of}
-use Rattle.marks.specs.declared.Draft.{Draft}
 use Rattle.marks.specs.Drafts.{half}
-use Rattle.marks.proofs.DraftLaws.{drafted_length}
+use Rattle.chart.proofs.FillLaws.{whole}
 use Rattle.spans.proofs.Places.{pair_at_below}
-use Rattle.chart.specs.Filling.{Whole}
 use Rattle.chart.proofs.SheetLaws.{begun, charted}
 use Rattle.filling.proofs.ClosingLaws.{no_columns, few_grown}
 use Rattle.filling.proofs.fill.Goals as goal
 
--- the array of tokens has 64 places
-whole : (d : Draft) → length d.tokens ≡ 64 → d.count ≤ 64 → d.known ≤ d.count → Whole d
-whole d long few inner = record { few = few; long = drafted_length d long few; inner = inner }
-
 pub returns-then-n-lt2 : goal.returns-then-n-lt2
 returns-then-n-lt2 c =
     let a = c.args in
-    let w = whole c.args.d c.well_formed.1.0.1.1.0.1.0.1 c.requires.count_bound.0
+    let w = whole c.args.d c.well_formed.1.0.1.1.0.1.0.1 (omega arith) c.requires.count_bound.0
     c.requires.count_bound.1 in
     let b : a.d.count < 2 = c.if-n-lt2.true in
     charted a.words.now a.words.now (rules_of a.g) (half a.d) a.d.count w.long
@@ -52,7 +44,7 @@ load_from-requires c = record {
 pub fill_starts-requires : goal.fill_starts-requires
 fill_starts-requires c =
     let a = c.args in
-    let w = whole c.args.d c.well_formed.1.0.1.1.0.1.0.1 c.requires.count_bound.0
+    let w = whole c.args.d c.well_formed.1.0.1.1.0.1.0.1 (omega arith) c.requires.count_bound.0
     c.requires.count_bound.1 in record {
       whole = (w, c.requires.ready.within);
       count_in_bounds = c.requires.count_in_bounds;
@@ -74,7 +66,7 @@ fill_starts-requires c =
 pub returns : goal.returns
 returns c =
     let a = c.args in
-    let w = whole c.args.d c.well_formed.1.0.1.1.0.1.0.1 c.requires.count_bound.0
+    let w = whole c.args.d c.well_formed.1.0.1.1.0.1.0.1 (omega arith) c.requires.count_bound.0
     c.requires.count_bound.1 in
     charted a.words.now c.fill_starts.new.words (rules_of a.g)
     (half a.d) a.d.count w.long w.inner a.from

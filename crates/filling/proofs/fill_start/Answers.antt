@@ -45,22 +45,6 @@ loop-len-init c =
       refl,
     )
 
--- src/lib.rt:146:9
-pub overflow_add-len : goal.overflow_add-len
-overflow_add-len c = omega (
-  arith,
-  c.loop-len-test.true,
-  c.requires.whole.0.few,
-)
-
--- src/lib.rt:147:12
-pub overflow_add-start-in-loop-len : goal.overflow_add-start-in-loop-len
-overflow_add-start-in-loop-len c = omega (
-  arith,
-  c.loop-len-test.true,
-  c.requires.whole.0.few,
-)
-
 -- src/lib.rt:148:13
 pub load-requires : goal.load-requires
 load-requires c =
@@ -82,7 +66,8 @@ loop-len-preserved-then-start-len c =
     let l = c.loop-len.invariant in (
       omega arith,
       omega (arith, c.loop-len-test.true),
-      (next_carried c.args.d _ _ _ _ c.loop-len.invariant.0 c.loop-len-test.true
+      (next_carried c.args.d c.args.start _ _ _ c.loop-len.invariant.0
+          (omega (arith, c.loop-len-test.true))
           c.with_next-k.ensures c.loop-len.invariant.2),
       l.3,
       l.4,
@@ -125,17 +110,17 @@ loop-len-preserved c =
     let far : a.from < a.start + len =
     omega (arith, c.if-start-len.false) in
     let ws = c.close.new.words in
+    let m = next_carried a.d a.start _ _ _ l.0 (omega (arith, c.loop-len-test.true))
+    c.with_next-k.ensures l.2 in
     let j = cut_joined b.words ws g h n a.start len c.with_next-k.result
     c.requires.formed.0.distinct (omega (arith, c.requires.whole.0.long, c.requires.whole.0.inner))
     fit
-    long (carried_all _ _ _ _ ((next_carried c.args.d _ _ _ _ c.loop-len.invariant.0
-    c.loop-len-test.true c.with_next-k.ensures c.loop-len.invariant.2)))
+    long (carried_all _ _ _ _ m)
     (filled_ground b.words g h n a.from a.start len fit l.5)
     c.close.ensures.cut_joins in (
       omega arith,
       fit,
-      (next_carried c.args.d _ _ _ _ c.loop-len.invariant.0 c.loop-len-test.true
-          c.with_next-k.ensures c.loop-len.invariant.2),
+      m,
       past_then l.3 (kept_past n a.start len fit j.kept),
       given_then l.4 (given_kept b.words ws n a.start len fit long j.kept),
       filled_on b.words ws g h n a.from a.start len long fit far l.5 j,

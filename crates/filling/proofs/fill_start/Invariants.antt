@@ -1,5 +1,5 @@
 use mathlib.Core.Path.{◌≡◌}
-use Prim.Native.Nat.{◌+◌, ◌-◌, ◌*◌, ◌≤◌, ◌<◌}
+use Prim.Native.Nat.{◌+◌, ◌*◌, ◌≤◌, ◌<◌}
 use lib.ListN.{length}
 use Rattle.grammar.specs.Content.{rules_of}
 use Rattle.grammar.specs.SpanSheet.{pairs}
@@ -19,7 +19,3 @@ invariant-loop-len l =
     × Begins l.words l.e
     × Mirrors l.words l.d.count l.start (l.len + 1) l.rows l.cols
     × (length l.cols ≡ length l.initial.cols)
-
-abbrev pub decreases-loop-len : goal.decreases-loop-len
-decreases-loop-len l =
-    l.d.count - l.len

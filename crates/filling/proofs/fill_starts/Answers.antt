@@ -22,9 +22,6 @@ loop-start-init c = (
 )
 
 -- src/lib.rt:207:9
-pub overflow_sub-start : goal.overflow_sub-start
-overflow_sub-start c = omega (arith, c.loop-start-test.true)
-
 -- src/lib.rt:208:9
 pub fill_start-requires : goal.fill_start-requires
 fill_start-requires c =

@@ -13,6 +13,3 @@ invariant-loop-start l = (l.start ≤ l.d.count)
     × (length l.rows ≡ 128)
     × Columns l.words l.d.count l.start l.cols × Begins l.words l.e
     × (length l.cols ≡ length l.initial.cols)
-
-abbrev pub decreases-loop-start : goal.decreases-loop-start
-decreases-loop-start l = l.start

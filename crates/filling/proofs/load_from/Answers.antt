@@ -16,9 +16,6 @@ loop-start-init c = (
 )
 
 -- src/lib.rt:181:9
-pub overflow_sub-start : goal.overflow_sub-start
-overflow_sub-start c = omega (arith, c.loop-start-test.true)
-
 -- src/lib.rt:182:9
 pub load_start-requires : goal.load_start-requires
 load_start-requires c =

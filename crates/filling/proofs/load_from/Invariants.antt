@@ -8,6 +8,3 @@ abbrev pub invariant-loop-start : goal.invariant-loop-start
 invariant-loop-start l = (l.to ≤ l.start) × (l.start ≤ l.n)
     × (length l.rows ≡ 128) × Columns l.words l.n l.start l.cols
     × (length l.cols ≡ length l.initial.cols)
-
-abbrev pub decreases-loop-start : goal.decreases-loop-start
-decreases-loop-start l = l.start

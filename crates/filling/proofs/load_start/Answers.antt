@@ -20,14 +20,6 @@ loop-len-init c = (
   refl,
 )
 
--- src/lib.rt:166:11
-pub overflow_add-start : goal.overflow_add-start
-overflow_add-start c = omega (
-  arith,
-  c.requires.room.few,
-  c.loop-len.invariant.1,
-)
-
 -- src/lib.rt:167:9
 pub load-requires : goal.load-requires
 load-requires c =
@@ -35,7 +27,7 @@ load-requires c =
       room = (
         record {
           few = c.requires.room.few;
-          fits = c.loop-len-test.true;
+          fits = omega (arith, c.loop-len-test.true);
           enough = c.requires.room.enough;
         },
         omega
@@ -43,19 +35,6 @@ load-requires c =
       );
       mirrors = l.2;
     }
-
--- src/lib.rt:168:9
-pub overflow_add-len : goal.overflow_add-len
-overflow_add-len c = omega (
-  arith,
-  c.loop-len-test.true,
-  c.requires.room.few,
-)
-
--- src/lib.rt:166:5
-pub loop-len-smaller : goal.loop-len-smaller
-loop-len-smaller c =
-    omega (arith, c.loop-len-test.true)
 
 -- src/lib.rt:166:5
 pub loop-len-preserved : goal.loop-len-preserved

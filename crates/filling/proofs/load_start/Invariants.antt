@@ -1,5 +1,5 @@
 use mathlib.Core.Path.{◌≡◌}
-use Prim.Native.Nat.{◌+◌, ◌-◌, ◌≤◌}
+use Prim.Native.Nat.{◌+◌, ◌≤◌}
 use lib.ListN.{length}
 use Rattle.cuts.specs.Cuts.{Mirrors}
 use Rattle.filling.proofs.load_start.Given as goal
@@ -7,6 +7,3 @@ use Rattle.filling.proofs.load_start.Given as goal
 abbrev pub invariant-loop-len : goal.invariant-loop-len
 invariant-loop-len l = (2 ≤ l.len) × (l.start + l.len ≤ l.n + 1)
     × Mirrors l.words l.n l.start l.len l.rows l.cols × (length l.cols ≡ length l.initial.cols)
-
-abbrev pub decreases-loop-len : goal.decreases-loop-len
-decreases-loop-len l = l.n + 1 - l.len

@@ -26,11 +26,11 @@ returns c =
     let a = c.args in
     let g = rules_of a.g in
     let w = rules_of c.link_rules-w.result in
-    let t = subst₂ (λ (x y : ℕ). Thinned a.one g w x y) (sym c.requires.formed.whole)
+    let t = subst₂ (λ (x y : ℕ). Thinned a.e.one g w x y) (sym c.requires.formed.whole)
     (sym v.ruled.whole) v.thinned in
-    let s = saturated_all a.one a.two c.first_marks-k.result 1 (omega arith) t
+    let s = saturated_all a.e.one a.e.two c.first_marks-k.result 1 (omega arith) t
     c.saturated-t.ensures in
     leaf_found c.requires.formed.distinct c.requires.empty_pair
     (subst (λ (k : SpanMarks). Leaves k 1 g (length g) c.leaves-b.result) m
-    c.leaves-b.ensures) (subst (λ (k : SpanMarks). Saturated a.one a.two k 1 g
+    c.leaves-b.ensures) (subst (λ (k : SpanMarks). Saturated a.e.one a.e.two k 1 g
     c.leaves-b.result c.saturated-t.result) m s)

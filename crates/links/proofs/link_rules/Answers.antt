@@ -1,4 +1,3 @@
-use borrow.Author.Rules.{rules}
 use mathlib.Core.Path.{◌≡◌, sym, subst}
 use Prim.Native.Nat.{ℕ, ◌<◌}
 use native.Mathlib.Omega.{arith}
@@ -33,10 +32,6 @@ one_sided-requires c =
     (omega (arith, c.requires.whole)))).clause
 
 -- src/lib.rt:43:5
-pub loop-i-smaller-then-one_sided : goal.loop-i-smaller-then-one_sided
-loop-i-smaller-then-one_sided c = omega arith
-
--- src/lib.rt:43:5
 pub loop-i-preserved-then-one_sided : goal.loop-i-preserved-then-one_sided
 loop-i-preserved-then-one_sided c =
     let l = c.loop-i in
@@ -50,10 +45,6 @@ loop-i-preserved-then-one_sided c =
           (subst (λ (r : Rule). Idle c.args.one
           r.clause) (sym (get_or-take g.count g.rules l.i no_rule h)) d),
     )
-
--- src/lib.rt:43:5
-pub loop-i-smaller : goal.loop-i-smaller
-loop-i-smaller c = omega arith
 
 -- src/lib.rt:43:5
 pub loop-i-preserved : goal.loop-i-preserved

@@ -1,4 +1,4 @@
-use Prim.Native.Nat.{◌-◌, ◌≤◌}
+use Prim.Native.Nat.{◌≤◌}
 use lib.ListN.{length}
 use Rattle.grammar.specs.Content.{rules_of}
 use Rattle.links.specs.LinkRules.{Thinned}
@@ -8,6 +8,3 @@ abbrev pub invariant-loop-i : goal.invariant-loop-i
 invariant-loop-i l =
     (l.i ≤ l.g.count) × (l.m ≤ l.i) × (l.g.count ≤ length l.rules)
     × Thinned l.one (rules_of l.g) l.rules l.i l.m
-
-abbrev pub decreases-loop-i : goal.decreases-loop-i
-decreases-loop-i l = l.g.count - l.i

@@ -1,4 +1,3 @@
-use borrow.Author.Rules.{rules}
 use mathlib.Core.Path.{◌≡◌, sym, subst}
 use Prim.Native.Nat.{ℕ, ◌+◌, ◌-◌, ◌<◌}
 use native.Mathlib.Omega.{arith}
@@ -14,14 +13,11 @@ pub loop-i-init : goal.loop-i-init
 loop-i-init c =
     let a = c.args in (
       omega arith,
-      subst (λ (x : ℕ). Pass a.one a.two a.k a.len (rules_of a.w) a.t x
+      subst (λ (x : ℕ). Pass a.e.one a.e.two a.k a.len (rules_of a.w) a.t x
           a.t) c.requires.whole pass_none,
     )
 
 -- src/lib.rt:78:9
-pub overflow_sub-i : goal.overflow_sub-i
-overflow_sub-i c = omega arith
-
 -- src/lib.rt:79:17
 pub bounds-w-i : goal.bounds-w-i
 bounds-w-i c =
@@ -52,8 +48,8 @@ loop-i-preserved c =
     let e = sym (get_or-take w.count w.rules (l.i - 1) no_rule h) in (
       omega (arith, l.invariant.0),
       pass_more {u = l.u}
-          (subst (λ (x : ℕ). Pass a.one a.two a.k a.len (rules_of w) a.t x l.u) n
-          l.invariant.1) (subst (λ (r : Rule). WholeSide a.one a.two a.k a.len r.left
+          (subst (λ (x : ℕ). Pass a.e.one a.e.two a.k a.len (rules_of w) a.t x l.u) n
+          l.invariant.1) (subst (λ (r : Rule). WholeSide a.e.one a.e.two a.k a.len r.left
           r.clause l.u c.try_link-u.result) e c.try_link-u.ensures),
     )
 

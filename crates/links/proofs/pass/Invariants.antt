@@ -5,7 +5,4 @@ use Rattle.links.proofs.pass.Given as goal
 
 abbrev pub invariant-loop-i : goal.invariant-loop-i
 invariant-loop-i l =
-    (l.i ≤ l.w.count) × Pass l.one l.two l.k l.len (rules_of l.w) l.initial.u l.i l.u
-
-abbrev pub decreases-loop-i : goal.decreases-loop-i
-decreases-loop-i l = l.i
+    (l.i ≤ l.w.count) × Pass l.e.one l.e.two l.k l.len (rules_of l.w) l.initial.u l.i l.u

@@ -4,8 +4,8 @@ use Rattle.grammar.specs.Content.{rules_of}
 use Rattle.joins.specs.Passes.{Passes}
 use Rattle.links.proofs.passes.Given as goal
 
-abbrev pub invariant-loop-b : goal.invariant-loop-b
-invariant-loop-b l = Passes l.one l.two l.k l.len (rules_of l.w) l.b l.t
+abbrev pub invariant-loop-t : goal.invariant-loop-t
+invariant-loop-t l = Passes l.e.one l.e.two l.k l.len (rules_of l.w) l.b l.t
 
-abbrev pub decreases-loop-b : goal.decreases-loop-b
-decreases-loop-b l = 2 ^ 65 - (l.t.one + l.t.two)
+abbrev pub decreases-loop-t : goal.decreases-loop-t
+decreases-loop-t l = 2 ^ 65 - (l.t.one + l.t.two)

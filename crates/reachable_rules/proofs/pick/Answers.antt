@@ -6,6 +6,7 @@ use native.Mathlib.Numerals.{add-one}
 use lib.ListN.{length, get_or, set, take, length-set}
 use lib.Seq.{get_or-take, length-take-le, take-suc-set}
 use Rattle.sets.specs.Sets.{In}
+use Rattle.grammar.specs.declared.Grammar.{Grammar}
 use Rattle.grammar.specs.declared.Rule.{Rule}
 use Rattle.grammar.specs.Content.{rules_of, SmallRule}
 use Rattle.grammar.proofs.Lists.{mem_every}
@@ -14,25 +15,15 @@ use Rattle.tables.specs.Tables.{no_rule}
 use Rattle.reachable_rules.specs.Steps.{Picked}
 use Rattle.reachable_rules.proofs.PickLaws.{picked_none, picked_skip, picked_more, picked_of}
 use Rattle.reachable_rules.proofs.PickLaws.{every_member}
-use Rattle.reachable_rules.proofs.pick.Lts
-use Rattle.reachable_rules.proofs.pick.Reads
-use Rattle.reachable_rules.proofs.pick.Tie
 use Rattle.reachable_rules.proofs.pick.Goals as goal
 
-array : (c : Lts.Start Tie.the-claims Reads.Pre Reads.Post goal.the-invariant-loop-i
-    goal.the-decreases-loop-i) → length c.args.g.rules ≡ 128
-array c = c.well_formed.0.1.1.0.1.0.1
-
--- the rule at the loop's place
-read : (c : Lts.In-loop Tie.the-claims Reads.Pre Reads.Post goal.the-invariant-loop-i
-    goal.the-decreases-loop-i)
-    → get_or (rules_of c.args.g) c.loop-i.i no_rule
-    ≡ get_or c.args.g.rules c.loop-i.i no_rule
-read c = let g = c.args.g in
-    get_or-take g.count g.rules c.loop-i.i no_rule c.loop-i-test.true
+-- the rule at a place
+read : (g : Grammar) (i : ℕ) → i < g.count
+    → get_or (rules_of g) i no_rule ≡ get_or g.rules i no_rule
+read g i h = get_or-take g.count g.rules i no_rule h
 
 pub loop-i-init : goal.loop-i-init
-loop-i-init c = (omega arith, omega arith, array c.before, picked_none _ _)
+loop-i-init c = (omega arith, omega arith, c.well_formed.0.1.1.0.1.0.1, picked_none _ _)
 
 pub offset_bounds-g-i : goal.offset_bounds-g-i
 offset_bounds-g-i c = omega (arith, c.requires.few)
@@ -43,7 +34,7 @@ bounds-g-i c = omega (arith, c.requires.few)
 pub has-requires : goal.has-requires
 has-requires c =
     (small_at c.requires _ (rule_at c.args.g c.loop-i.i no_rule
-    (array c.before.before.before.before) c.requires.few
+    c.well_formed.0.1.1.0.1.0.1 c.requires.few
     c.loop-i-test.true)).left
 
 pub loop-i-preserved-then-not-has : goal.loop-i-preserved-then-not-has
@@ -55,7 +46,7 @@ loop-i-preserved-then-not-has c =
       l.invariant.2,
       picked_skip l.invariant.3
           (λ m. c.has.ensures.isnt c.if-not-has.true
-          (subst (λ (r : Rule). In set r.left) (read c.before.before.before) m)),
+          (subst (λ (r : Rule). In set r.left) (read c.args.g l.i c.loop-i-test.true) m)),
     )
 
 pub offset_bounds-rules-m : goal.offset_bounds-rules-m
@@ -72,11 +63,11 @@ loop-i-preserved c =
     let room : l.m < length l.rules =
     omega (arith, l.invariant.1, l.invariant.2, c.requires.few, c.loop-i-test.true) in
     let kept : In c.args.set (get_or (rules_of c.args.g) l.i no_rule).left = subst
-    (λ (r : Rule). In c.args.set r.left) (sym (read c.before.before.before))
+    (λ (r : Rule). In c.args.set r.left) (sym (read c.args.g l.i c.loop-i-test.true))
     (c.has.ensures.is c.if-not-has.false) in
     let stored : take (l.m + 1) (set l.rules l.m (get_or c.args.g.rules l.i no_rule))
     ≡ take l.m l.rules ++ (get_or (rules_of c.args.g) l.i no_rule ∷ []) =
-    rw (add-one l.m, read c.before.before.before) (take-suc-set l.rules l.m _ room) in (
+    rw (add-one l.m, read c.args.g l.i c.loop-i-test.true) (take-suc-set l.rules l.m _ room) in (
       omega arith,
       omega (arith, l.invariant.1),
       length-set l.rules l.m _ ∙ l.invariant.2,

@@ -1,6 +1,6 @@
 -- The loop's invariant: of the rules passed those of the set are picked.
 use mathlib.Core.Path.{◌≡◌}
-use Prim.Native.Nat.{◌-◌, ◌≤◌}
+use Prim.Native.Nat.{◌≤◌}
 use lib.ListN.{length, take}
 use Rattle.grammar.specs.Content.{rules_of}
 use Rattle.reachable_rules.specs.Steps.{Picked}
@@ -10,6 +10,3 @@ abbrev pub invariant-loop-i : goal.invariant-loop-i
 invariant-loop-i l =
     (l.i ≤ l.g.count) × (l.m ≤ l.i) × (length l.rules ≡ 128)
     × Picked (rules_of l.g) l.set l.i (take l.m l.rules)
-
-abbrev pub decreases-loop-i : goal.decreases-loop-i
-decreases-loop-i l = l.g.count - l.i

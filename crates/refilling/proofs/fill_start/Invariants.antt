@@ -1,6 +1,6 @@
 use mathlib.Core.Path.{◌≡◌}
 use lib.ListN.{length}
-use Prim.Native.Nat.{◌+◌, ◌-◌, ◌*◌, ◌≤◌, ◌<◌}
+use Prim.Native.Nat.{◌+◌, ◌*◌, ◌≤◌, ◌<◌}
 use Rattle.grammar.specs.Content.{rules_of}
 use Rattle.grammar.specs.SpanSheet.{pairs}
 use Rattle.marks.specs.Drafts.{half}
@@ -8,17 +8,13 @@ use Rattle.marks.specs.Marked.{Carried}
 use Rattle.spans.specs.Changes.{Past}
 use Rattle.chart.specs.Filling.{Given, Filled}
 use Rattle.refilling.specs.Kept.{Mirrored, Suits}
-use Rattle.refilling.specs.Short.{wide}
 use Rattle.refilling.proofs.fill_start.Given as goal
 
 abbrev pub invariant-loop-len : goal.invariant-loop-len
 invariant-loop-len l =
-    (0 < l.len) × (l.start + l.len ≤ l.d.count) × Carried (half (wide l.d)) l.start l.len l.k
+    (0 < l.len) × (l.start + l.len ≤ l.d.count) × Carried (half l.d) l.start l.len l.k
     × Past (2 * pairs l.d.count) l.initial.words l.words × Given l.initial.words l.words l.d.count
-    × Filled l.words (rules_of l.g) (half (wide l.d)) l.d.count l.from l.start (l.len + 1)
+    × Filled l.words (rules_of l.g) (half l.d) l.d.count l.from l.start (l.len + 1)
     × Suits (rules_of l.g) l.words l.kept
     × Mirrored (rules_of l.g) l.d.count l.words l.kept
     × (length l.kept ≡ length l.initial.kept)
-
-abbrev pub decreases-loop-len : goal.decreases-loop-len
-decreases-loop-len l = l.d.count - l.len

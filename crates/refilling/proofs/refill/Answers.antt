@@ -1,32 +1,24 @@
 use mathlib.Core.Path.{◌≡◌, refl, ◌∙◌, subst}
-use Prim.Native.Nat.{ℕ, ◌+◌, ◌-◌, ◌≤◌}
+use Prim.Native.Nat.{ℕ, ◌+◌, ◌-◌}
 use native.Mathlib.Omega.{arith}
-use lib.ListN.{length}
 use Rattle.grammar.specs.Content.{rules_of}
 use Rattle.marks.specs.Drafts.{half}
 use Rattle.spans.proofs.ChangeLaws.{past_same, past_then}
-use Rattle.chart.specs.Filling.{Whole, Filled, FilledFrom}
-use Rattle.chart.proofs.FillLaws.{given_same, given_then}
+use Rattle.chart.specs.Filling.{Filled, FilledFrom}
+use Rattle.chart.proofs.FillLaws.{whole, given_same, given_then}
 use Rattle.chart.proofs.SheetLaws.{begun, charted}
 use Rattle.refilling.proofs.KeptLaws.{suits}
-use Rattle.refilling.specs.declared.ShortDraft.{ShortDraft}
-use Rattle.refilling.specs.Short.{wide}
-use Rattle.refilling.proofs.ShortLaws.{short_length}
 use Rattle.refilling.proofs.refill.Goals as goal
-
--- the array of tokens has 7 places
-whole : (d : ShortDraft) → length d.tokens ≡ 7 → d.count ≤ 7 → d.known ≤ d.count → Whole (wide d)
-whole d long few inner = record { few = omega arith; long = short_length d long few; inner = inner }
 
 pub loop-start-init : goal.loop-start-init
 loop-start-init c =
     let a = c.args in
     let r = c.requires.ready in
-    let w = whole c.args.d c.well_formed.1.1.0.1.1.0.1.0.1 c.requires.count_bound.0
+    let w = whole c.args.d c.well_formed.1.1.0.1.1.0.1.0.1 (omega arith) c.requires.count_bound.0
     c.requires.count_bound.1 in (
       r.within,
       record {
-        filled = begun a.words.now (rules_of a.g) (half (wide a.d)) a.d.count a.from
+        filled = begun a.words.now (rules_of a.g) (half a.d) a.d.count a.from
             a.to
             c.requires.formed.distinct (omega (arith, w.long, w.inner)) r;
         given = given_same _ _;
@@ -37,16 +29,13 @@ loop-start-init c =
       refl,
     )
 
-pub overflow_sub-start : goal.overflow_sub-start
-overflow_sub-start c = omega (arith, c.loop-start-test.true)
-
 pub fill_start-requires : goal.fill_start-requires
 fill_start-requires c =
     let l = c.loop-start in
     let a = c.args in
     let e : l.start ≡ l.start - 1 + 1 = omega (arith, c.loop-start-test.true) in record {
       whole = (
-        whole c.args.d c.well_formed.1.1.0.1.1.0.1.0.1 c.requires.count_bound.0
+        whole c.args.d c.well_formed.1.1.0.1.1.0.1.0.1 (omega arith) c.requires.count_bound.0
             c.requires.count_bound.1,
         c.requires.count_bound.0,
         omega
@@ -55,7 +44,7 @@ fill_start-requires c =
       count_in_bounds = omega (arith, l.invariant.1.past.long, c.requires.count_in_bounds);
       formed = (c.requires.formed, l.invariant.2);
       mirrored = l.invariant.3;
-      filled = subst (λ (s : ℕ). Filled l.words (rules_of a.g) (half (wide a.d)) a.d.count
+      filled = subst (λ (s : ℕ). Filled l.words (rules_of a.g) (half a.d) a.d.count
           a.from s (a.d.count + 1)) e l.invariant.1.filled;
     }
 
@@ -75,7 +64,7 @@ loop-start-preserved c =
       },
       f.suits,
       f.mirrored_2,
-      c.kept-1.given ∙ l.4,
+      c.fill_start.auto.kept ∙ l.4,
     )
 
 pub shape_of-words : goal.shape_of-words
@@ -88,12 +77,12 @@ pub returns : goal.returns
 returns c =
     let a = c.args in
     let l = c.loop-start in
-    let w = whole c.args.d c.well_formed.1.1.0.1.1.0.1.0.1 c.requires.count_bound.0
+    let w = whole c.args.d c.well_formed.1.1.0.1.1.0.1.0.1 (omega arith) c.requires.count_bound.0
     c.requires.count_bound.1 in
     let e : l.start ≡ 0 = omega (arith, c.loop-start-test.false) in record {
-      charted = charted a.words.now l.words (rules_of a.g) (half (wide a.d)) a.d.count w.long
+      charted = charted a.words.now l.words (rules_of a.g) (half a.d) a.d.count w.long
           w.inner a.from
-          (subst (FilledFrom a.words.now l.words (rules_of a.g) (half (wide a.d))
+          (subst (FilledFrom a.words.now l.words (rules_of a.g) (half a.d)
           a.d.count
           a.from) e l.invariant.1);
       mirrored_2 = l.invariant.3;
