@@ -23,7 +23,7 @@ use Rattle.marks.specs.Marked.{Marked}
 use Rattle.marks.proofs.Words.{part_length}
 use Rattle.marks.proofs.HalfLaws.{may_be, may_keep, may_pair, is_one, does_keep, does_pair}
 use Rattle.marks.proofs.HalfLaws.{completes_self}
-use Rattle.choices.specs.declared.Split.{Split}
+use Rattle.std.specs.Prelude.{Option, Some, None}
 use Rattle.choices.specs.declared.Pick.{Pick}
 use Rattle.tables.specs.Tables.{One, by_tokens, by_marks, Fits, Stand, rule}
 use Rattle.choices.specs.Choosing.{NextAt, NoneFrom, NextChoice}
@@ -39,8 +39,8 @@ module _ (ws : List ℕ) (g : Grammar) (n start len : ℕ) (m : SpanMarks) (A p 
   reached_first = record { on = inr (refl, omega arith); rest = λ i l h c. h }
 
   pub pick_here : (i l₁ l : ℕ) → i < length (rules_of g) → Reached ws g n start len m A p k i l₁
-      → FirstSplit ws n start len m A (rule (rules_of g) i) l₁ (Split.At l)
-      → FirstPick ws g n start len m A p k (Pick.At i l)
+      → FirstSplit ws n start len m A (rule (rules_of g) i) l₁ (Some l)
+      → FirstPick ws g n start len m A p k (Some (record { rule = i; left = l }))
   pick_here i l₁ l h r f = (
     record {
       on = ⊎_elim inl (λ e. inr (e.0, omega (arith, e.1, f.0))) r.on;
@@ -57,7 +57,7 @@ module _ (ws : List ℕ) (g : Grammar) (n start len : ℕ) (m : SpanMarks) (A p 
       go j q e x c (no y) = omega arith
 
   pub pick_on : (i l₁ : ℕ) → Reached ws g n start len m A p k i l₁
-      → FirstSplit ws n start len m A (rule (rules_of g) i) l₁ Split.Nowhere
+      → FirstSplit ws n start len m A (rule (rules_of g) i) l₁ None
       → Reached ws g n start len m A p k (i + 1) 0
   pick_on i l₁ r f = record {
     on = ⊎_elim (λ x. inl (omega arith)) (λ e. inl (omega (arith, e.0))) r.on;
@@ -71,7 +71,7 @@ module _ (ws : List ℕ) (g : Grammar) (n start len : ℕ) (m : SpanMarks) (A p 
       go j q h (no l) = inr (omega arith, omega arith)
 
   pub pick_none : (i l₁ : ℕ) → length (rules_of g) ≤ i → Reached ws g n start len m A p k i l₁
-      → FirstPick ws g n start len m A p k Pick.Nothing
+      → FirstPick ws g n start len m A p k None
   pick_none i l₁ h r j q u c =
       ⊎_elim (λ x. omega (arith, c.within)) (λ e. omega (arith, c.within, e.0)) (r.rest j q u c)
 
@@ -201,7 +201,7 @@ before_after p k i j (inr a) = go (dec_lt j k)
 -- what the search finds by the marks is grammar's next choice
 module _ (g : Grammar) (w : Word) (ws : List ℕ) (s len : ℕ) (m : SpanMarks) (A p k : ℕ)
     (formed : Formed g) where
-  next_whole : (r : Pick) → s + len ≤ length w → SpanSheet (rules_of g) w ws
+  next_whole : (r : Option Pick) → s + len ≤ length w → SpanSheet (rules_of g) w ws
       → Marked (whole w) s len m
       → FirstPick ws g (length w) s len m A p k r → NextChoice (rules_of g) A (part w s len) p k r
   next_whole r fit sheet marked = go r
@@ -222,20 +222,22 @@ module _ (g : Grammar) (w : Word) (ws : List ℕ) (s len : ℕ) (m : SpanMarks) 
           A i l (tokens_marks (whole w) s len m marked)
           (choice_stand (rules_of g) w ws sheet s len fit (small_at formed) A i l c)
 
-      go : (r : Pick) → FirstPick ws g (length w) s len m A p k r
+      go : (r : Option Pick) → FirstPick ws g (length w) s len m A p k r
           → NextChoice (rules_of g) A (part w s len) p k r
-      go (Pick.At i l) q = record {
-        choice = to i l q.1;
-        late = λ b. not_both i l p k b q.0.on;
-        least = λ a b c x y. ⊎_elim x (λ u. not_both a b i l y (q.0.rest a b u (from a b c)))
+      go (Some x) q = record {
+        choice = to x.rule x.left q.1;
+        late = λ b. not_both x.rule x.left p k b q.0.on;
+        least = λ a b c z y. ⊎_elim z (λ u. not_both a b x.rule x.left y
+            (q.0.rest a b u (from a b c)))
             (before_or_upon a b p k);
       }
-      go Pick.Nothing q = record {
+      go None q = record {
         early = λ a b c. ⊎_elim (λ x. x)
             (λ u. absurd (q a b u (from a b c))) (before_or_upon a b p k);
       }
 
-  pub next_found : (n : ℕ) (r : Pick) → length w ≡ n → s + len ≤ n → SpanSheet (rules_of g) w ws
+  pub next_found : (n : ℕ) (r : Option Pick) → length w ≡ n → s + len ≤ n
+      → SpanSheet (rules_of g) w ws
       → Marked (record { word = w; known = n }) s len m → FirstPick ws g n s len m A p k r
       → NextChoice (rules_of g) A (part w s len) p k r
   next_found n r e = subst

@@ -1,5 +1,5 @@
 -- The choices at a span in their order, read off its span sheet.
-use Rattle.std.specs.Prelude.{ℕ}
+use Rattle.std.specs.Prelude.{ℕ, Option, Some, None}
 use Rattle.grammar.specs.Layout.{Word}
 use Rattle.grammar.specs.Trees.{Rules}
 use Rattle.grammar.specs.Choices.{Choice, ChoiceBefore}
@@ -15,6 +15,6 @@ pub record NextAt (g : Rules) (A : ℕ) (w : Word) (p k q l : ℕ) : Type 0 wher
 pub record NoneFrom (g : Rules) (A : ℕ) (w : Word) (p k : ℕ) : Type 0 where
   pub early : (i j : ℕ) → Choice g A w i j → ChoiceBefore i j p k
 
-abbrev pub NextChoice : Rules → ℕ → Word → ℕ → ℕ → Pick → Type 0
-NextChoice g A w p k (Pick.At q l) = NextAt g A w p k q l
-NextChoice g A w p k Pick.Nothing = NoneFrom g A w p k
+abbrev pub NextChoice : Rules → ℕ → Word → ℕ → ℕ → Option Pick → Type 0
+NextChoice g A w p k (Some x) = NextAt g A w p k x.rule x.left
+NextChoice g A w p k None = NoneFrom g A w p k

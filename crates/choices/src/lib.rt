@@ -111,20 +111,15 @@ pub fn last_left(c: Clause, len: usize) -> usize
     }
 }
 
-// A left length, or none.
-#[derive(Clone, Copy)]
-pub enum Split {
-    At(usize),
-    Nowhere,
+// A choice: the rule's place in the sheet, counted from 0, and the length of the left word.
+#[derive(Clone, Copy, PartialEq, Eq)]
+pub struct Pick {
+    pub rule: usize,
+    pub left: usize,
 }
 
-// A choice: the rule's place in the sheet, counted from 0, and the length of the left word; or
-// none.
-#[derive(Clone, Copy)]
-pub enum Pick {
-    At(usize, usize),
-    Nothing,
-}
+// No choice is before this one.
+pub const FIRST: Pick = Pick { rule: 0, left: 0 };
 
 // The first left length from `from` on with which the rule stands over the span for `a`.
 fn next_split(
@@ -136,28 +131,26 @@ fn next_split(
     len: usize,
     k: SpanMarks,
     from: usize,
-) -> Split
+) -> Option<usize>
     requires room { Room words.now n start len }
     requires small_rule { SmallRule r }
     ensures { FirstSplit words.now n start len k a r from result }
 {
     if r.left != a {
-        return Split::Nowhere;
+        return None;
     }
     let c = r.clause;
     let last = last_left(c, len);
-    let mut left = from;
-    while left <= last {
+    for left in from..=last {
         if clause_fits(words, n, c, start, len, left, k) {
-            return Split::At(left);
+            return Some(left);
         }
-        left += 1;
     }
-    Split::Nowhere
+    None
 }
 
-// The first rule that stands over the span for `a`, from the place `rule` with `left` tokens on its
-// left on.
+// The first rule that stands over the span for `a`, with the fewest tokens on its left, that is not
+// before `from`.
 fn next_rule(
     words: &[u64],
     n: usize,
@@ -166,33 +159,24 @@ fn next_rule(
     start: usize,
     len: usize,
     k: SpanMarks,
-    rule: usize,
-    left: usize,
-) -> Pick
+    from: Pick,
+) -> Option<Pick>
     requires room { Room words.now n start len }
     requires formed { Formed g }
-    ensures { FirstPick words.now g n start len k a rule left result }
+    ensures { FirstPick words.now g n start len k a from.rule from.left result }
 {
-    let mut i = rule;
-    let mut from = left;
-    while i < g.count {
-        let r = g.rules[i];
-        let p = next_split(words, n, a, r, start, len, k, from);
-        match p {
-            Split::At(l) => {
-                return Pick::At(i, l);
-            }
-            Split::Nowhere => {
-                from = 0;
-                i += 1;
-            }
+    let mut least = from.left;
+    for rule in from.rule..g.count {
+        let r = g.rules[rule];
+        if let Some(left) = next_split(words, n, a, r, start, len, k, least) {
+            return Some(Pick { rule, left });
         }
+        least = 0;
     }
-    Pick::Nothing
+    None
 }
 
-// The first choice of `a` at the span of `len` tokens from `start` on that is not before the choice
-// (`rule`, `left`).
+// The first choice of `a` at the span of `len` tokens from `start` on that is not before `from`.
 pub fn next_choice(
     words: &[u64],
     s: Sentence,
@@ -200,13 +184,12 @@ pub fn next_choice(
     a: u8,
     start: usize,
     len: usize,
-    rule: usize,
-    left: usize,
-) -> Pick
+    from: Pick,
+) -> Option<Pick>
     requires count_bound { (s.count ≤ 64) × (start + len ≤ s.count) }
     requires formed { Formed g }
     requires span_sheet { SpanSheet (rules_of g) (spelled s) words.now }
-    ensures { NextChoice (rules_of g) a (part (spelled s) start len) rule left result }
+    ensures { NextChoice (rules_of g) a (part (spelled s) start len) from.rule from.left result }
 {
     let n = s.count;
     let tokens = s.tokens;
@@ -216,5 +199,5 @@ pub fn next_choice(
         known: n,
     };
     let k = span_marks(d, start, len);
-    next_rule(words, n, g, a, start, len, k, rule, left)
+    next_rule(words, n, g, a, start, len, k, from)
 }

@@ -232,7 +232,7 @@ works_more ws g n s len k small fit rs rs₁ rs₂ done A r ps ps' x b j t o = r
 }
 
 -- the words are enough for the span sheet
-pub known_room : {ws : List ℕ} {g : Rules} {d : Draft} → Known ws g d → (s len : ℕ)
+pub known_room : {ws : List ℕ} {g : Rules} {d : Draft 64} → Known ws g d → (s len : ℕ)
     → s + len ≤ d.count → Room ws d.count s len
 known_room {ws} k s len fit = record {
   few = k.few;

@@ -1,7 +1,6 @@
 -- What lies beneath a choice is put into the words (inner: contracts of the functions that do so).
 use Rattle.std.specs.Prelude.{◌≡◌, List, ◌⊎◌, ℕ, ◌+◌, ◌-◌, ◌≤◌, ◌<◌, length}
-use Rattle.sets.specs.declared.Member.{Member}
-use Rattle.sets.specs.declared.Member.TheVariants.{At, Nothing}
+use Rattle.std.specs.Prelude.{Option, Some, None}
 use Rattle.sets.specs.Sets.{In}
 use Rattle.grammar.specs.declared.Rule.{Rule}
 use Rattle.grammar.specs.declared.Clause.{Clause}
@@ -43,9 +42,9 @@ ChoiceKids ws g n s len k A q B =
     × Kid n s len (rule g i).clause l q B
 
 -- a member of set that is not in done
-abbrev pub Fresh : ℕ → ℕ → Member → Type 0
-Fresh set done (At a) = (a < 64) × In set a × (In done a → ⊥)
-Fresh set done Nothing = (a : ℕ) → a < 64 → In set a → In done a
+abbrev pub Fresh : ℕ → ℕ → Option ℕ → Type 0
+Fresh set done (Some a) = (a < 64) × In set a × (In done a → ⊥)
+Fresh set done None = (a : ℕ) → a < 64 → In set a → In done a
 
 -- beneath the clause at each cut of a set
 abbrev pub CutKids : ℕ → ℕ → ℕ → Clause → ℕ → ℕ → ℕ → Type 0

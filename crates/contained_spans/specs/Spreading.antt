@@ -18,7 +18,7 @@ use Rattle.contained_spans.specs.Reached.{Bit}
 use Rattle.contained_spans.specs.Seeing.{SeenAt, SeenColumns}
 
 -- the words are the span sheet of a draft that is known whole
-pub record Known (ws : List ℕ) (g : Rules) (d : Draft) : Type 0 where
+pub record Known (ws : List ℕ) (g : Rules) (d : Draft 64) : Type 0 where
   pub few : d.count ≤ 64
   pub long : length (drafted d) ≡ d.count
   pub known : d.known ≡ d.count

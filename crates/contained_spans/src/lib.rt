@@ -26,11 +26,11 @@ ghost use Rattle.grammar.specs.Sentences.{spelled};
 
 use choices::clause_fits;
 use cut_tables::{begin_row, load_columns};
-use cuts::{cut_masks, lowest};
+use cuts::{cut_masks, members_of};
 use grammar::{BinaryMark, Clause, Grammar, Sentence};
 use marks::{Draft, SpanMarks, span_marks};
 use rule_lists::list_rules;
-use sets::{Member, has, wide, with};
+use sets::{has, wide, with};
 use spans::{SPANS, clear, pair_at, size};
 
 // Put `a` into the set at `p`.
@@ -94,11 +94,8 @@ fn add_cuts(reach: &mut [u64], n: usize, c: Clause, start: usize, len: usize, se
     requires small_clause { SmallClause c }
     ensures { Joins (CutKids n start len c set) reach.old reach.new }
 {
-    let mut rest = set;
-    while rest != 0 {
-        let left = wide(lowest(rest)) - start;
-        add_kids(reach, n, c, start, len, left);
-        rest = rest & (rest - 1);
+    for cut in members_of(set) {
+        add_kids(reach, n, c, start, len, cut as usize - start);
     }
 }
 
@@ -155,7 +152,7 @@ fn plus(a: u8, b: u8) -> u8
     requires { (a ≤ 2) × (b ≤ 2) }
     ensures { Plus a b result }
 {
-    if a + b < 2 { a + b } else { 2 }
+    (a + b).min(2)
 }
 
 // Put in `b` at the pair `p` and `e` at `q`, where both have a tree there. In how many ways do
@@ -300,24 +297,24 @@ fn spread_clause(
         reach.new seen.new result }
 {
     match c {
-        Clause::Empty => try_left(words, reach, n, c, start, len, 0, k),
-        Clause::Atom(_, _) => try_left(words, reach, n, c, start, len, 0, k),
-        Clause::Unary(_, _) => try_left(words, reach, n, c, start, len, 0, k),
         Clause::Binary(b, e, m) => {
             spread_binary(words, cuts, seen, reach, n, b, e, m, start, len, k)
+        }
+        Clause::Empty | Clause::Atom(_, _) | Clause::Unary(_, _) => {
+            try_left(words, reach, n, c, start, len, 0, k)
         }
     }
 }
 
 // A member of the set that is not yet done.
-fn fresh(set: u64, done: u64) -> Member
+fn fresh(set: u64, done: u64) -> Option<u8>
     ensures { Fresh set done result }
 {
     let rest = set & (set ^ done);
     if rest == 0 {
-        return Member::Nothing;
+        return None;
     }
-    Member::At(u64::trailing_zeros(rest) as u8)
+    Some(u64::trailing_zeros(rest) as u8)
 }
 
 // The set, with `a` besides if there are two ways.
@@ -366,10 +363,10 @@ fn work_off(
         parted = noted(parted, a, count);
         let m = fresh(reach[p], done);
         match m {
-            Member::Nothing => {
+            None => {
                 return parted;
             }
-            Member::At(b) => {
+            Some(b) => {
                 done = with(done, b);
                 a = b;
                 count = 0;
@@ -386,7 +383,7 @@ fn spread_span(
     seen: &mut [u64],
     reach: &mut [u64],
     parts: &mut [u64],
-    d: Draft,
+    d: Draft<64>,
     g: Grammar,
     lists: &[u64],
     start: usize,
@@ -411,7 +408,7 @@ fn spread_start(
     seen: &mut [u64],
     reach: &mut [u64],
     parts: &mut [u64],
-    d: Draft,
+    d: Draft<64>,
     g: Grammar,
     lists: &[u64],
     start: usize,
@@ -426,10 +423,8 @@ fn spread_start(
     let n = d.count;
     begin_row(words, cuts, n, start);
     clear(seen, 64);
-    let mut len = n - start;
-    while 0 < len {
+    for len in (1..=n - start).rev() {
         spread_span(words, cuts, seen, reach, parts, d, g, lists, start, len);
-        len -= 1;
     }
 }
 
@@ -440,7 +435,7 @@ fn spread_all(
     seen: &mut [u64],
     reach: &mut [u64],
     parts: &mut [u64],
-    d: Draft,
+    d: Draft<64>,
     g: Grammar,
     lists: &[u64],
 )
@@ -451,10 +446,8 @@ fn spread_all(
     ensures { AllDone (rules_of g) (drafted d) d.count reach.new
         parts.new }
 {
-    let mut start = 0;
-    while start < d.count {
+    for start in 0..d.count {
         spread_start(words, cuts, seen, reach, parts, d, g, lists, start);
-        start += 1;
     }
     spread_span(words, cuts, seen, reach, parts, d, g, lists, 0, 0);
 }

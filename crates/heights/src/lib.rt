@@ -24,6 +24,7 @@ use sets::{either, wide};
 use spans::{SPANS, pair_at};
 
 // A place for each of 64 nonterminals over each span of 64 tokens.
+// Kept: 65535 is no height, as `heights` is lent numbers that are all 65535.
 pub const HEIGHTS: usize = 133184;
 
 // Where the number of `a` at the span stands.
@@ -48,16 +49,7 @@ pub fn high(hs: &[u16], n: usize, start: usize, len: usize, a: u8) -> u16
 fn over(a: u16, b: u16) -> u16
     ensures { Over a b result }
 {
-    if a < b {
-        if b < 65535 {
-            return b + 1;
-        }
-        return 65535;
-    }
-    if a < 65535 {
-        return a + 1;
-    }
-    65535
+    a.max(b).saturating_add(1)
 }
 
 // How high a unary clause stands over the span.
@@ -180,16 +172,6 @@ fn lower(
     put_lower(hs, at, h)
 }
 
-// The lesser of two numbers.
-fn lesser(a: u16, b: u16) -> u16
-    ensures { result ≡ min a b }
-{
-    if a < b {
-        return a;
-    }
-    b
-}
-
 // How high a binary clause stands at least, with a token or more on either side.
 fn lowest_cut(
     hs: &[u16],
@@ -207,11 +189,9 @@ fn lowest_cut(
         (Kind.Binary b e m) 1 len result }
 {
     let mut best: u16 = 65535;
-    let mut left: usize = 1;
-    while left < len {
+    for left in 1..len {
         let h = binary_tall(hs, n, b, e, m, start, len, left, k);
-        best = lesser(best, h);
-        left += 1;
+        best = best.min(h);
     }
     best
 }
@@ -242,12 +222,10 @@ fn lower_inner(hs: &mut [u16], n: usize, g: Grammar, start: usize, len: usize, k
         hs.old hs.new result }
 {
     let mut fell = false;
-    let mut i = 0;
-    while i < g.count {
+    for i in 0..g.count {
         let r = g.rules[i];
         let more = lower_split(hs, n, r, start, len, k);
         fell = either(fell, more);
-        i += 1;
     }
     fell
 }
@@ -290,18 +268,17 @@ fn lower_ends(hs: &mut [u16], n: usize, r: Rule, start: usize, len: usize, k: Sp
 }
 
 // Each rule with the empty word on one side.
+// Kept: one function for this and `lower_inner` would take a closure over `hs`, and be no plainer.
 fn lower_all(hs: &mut [u16], n: usize, g: Grammar, start: usize, len: usize, k: SpanMarks) -> bool
     requires { Room hs.old n start len × Formed g }
     ensures { HeightsTried (rules_of g) (by_marks k len) n start len (AllEnds len g.count)
         hs.old hs.new result }
 {
     let mut fell = false;
-    let mut i = 0;
-    while i < g.count {
+    for i in 0..g.count {
         let r = g.rules[i];
         let more = lower_ends(hs, n, r, start, len, k);
         fell = either(fell, more);
-        i += 1;
     }
     fell
 }
@@ -321,7 +298,7 @@ fn lower_on(hs: &mut [u16], n: usize, g: Grammar, start: usize, len: usize, k: S
 }
 
 // Settle the numbers of the span.
-fn settle(hs: &mut [u16], d: Draft, g: Grammar, start: usize, len: usize)
+fn settle(hs: &mut [u16], d: Draft<64>, g: Grammar, start: usize, len: usize)
     requires { Settling d hs.old start len × Formed g }
     ensures { Shut (rules_of g) (by_word (drafted d) start len) (length (drafted d)) start len
         hs.old hs.new }
@@ -333,31 +310,25 @@ fn settle(hs: &mut [u16], d: Draft, g: Grammar, start: usize, len: usize)
 }
 
 // Settle all spans of `len` tokens.
-fn settle_row(hs: &mut [u16], d: Draft, g: Grammar, len: usize)
+fn settle_row(hs: &mut [u16], d: Draft<64>, g: Grammar, len: usize)
     requires whole { Whole d × (0 < len) × (len ≤ d.count) × Formed g }
     requires filled { Filled hs.old (rules_of g) (drafted d) 0 len }
     ensures { Filled hs.new (rules_of g) (drafted d) 0 (len + 1) }
 {
-    let n = d.count;
-    let mut start = 0;
-    while start + len <= n {
+    for start in 0..=d.count - len {
         settle(hs, d, g, start, len);
-        start += 1;
     }
 }
 
 // Settle all spans, from the empty word on.
-fn settle_all(hs: &mut [u16], d: Draft, g: Grammar)
+fn settle_all(hs: &mut [u16], d: Draft<64>, g: Grammar)
     requires whole { Whole d × Formed g }
     requires filled { Filled hs.old (rules_of g) (drafted d) 0 0 }
     ensures { HeightSheet (rules_of g) (drafted d) hs.new }
 {
-    let n = d.count;
     settle(hs, d, g, 0, 0);
-    let mut len = 1;
-    while len <= n {
+    for len in 1..=d.count {
         settle_row(hs, d, g, len);
-        len += 1;
     }
 }
 

@@ -11,7 +11,7 @@ ghost use Rattle.place_list.specs.Given.{PlacesGiven};
 ghost use Rattle.grammar.specs.Sentences.{spelled};
 
 use grammar::{Grammar, Sentence};
-use lists::{Listed, Listing, begin, finish, put};
+use lists::{Listing, begin, finish, put};
 use sets::has;
 use spans::pair_at;
 
@@ -54,14 +54,11 @@ fn list_span(
     let p = pair_at(n, start, len);
     let set = parts[p];
     let mut k = l;
-    let mut a: u8 = 0;
-    while a < 64 {
+    for a in 0u8..64 {
         if !has(set, a) {
-            a += 1;
             continue;
         }
         k = list_one(s, g, a, start, len, list, k);
-        a += 1;
     }
     k
 }
@@ -81,12 +78,9 @@ fn list_row(
     ensures { Lists (rules_of g) (spelled s) list.old list.new l result
         (entry 0 0 len) (entry 0 0 (len - 1)) }
 {
-    let n = s.count;
     let mut k = l;
-    let mut start = 0;
-    while start + len <= n {
+    for start in 0..=s.count - len {
         k = list_span(parts, s, g, start, len, list, k);
-        start += 1;
     }
     k
 }
@@ -99,16 +93,14 @@ fn list_all(parts: &[u64], s: Sentence, g: Grammar, list: &mut [u8], l: Listing)
         (entry 0 0 s.count) (entry 64 0 0) }
 {
     let mut k = l;
-    let mut len = s.count;
-    while 0 < len {
+    for len in (1..=s.count).rev() {
         k = list_row(parts, s, g, len, list, k);
-        len -= 1;
     }
     list_span(parts, s, g, 0, 0, list, k)
 }
 
 // The list of the places in the lent bytes, with 0 after it; all 0 where it does not fit.
-pub fn list_places(parts: &[u64], s: Sentence, g: Grammar, list: &mut [u8]) -> Listed
+pub fn list_places(parts: &[u64], s: Sentence, g: Grammar, list: &mut [u8]) -> Option<usize>
     requires { Scene g s parts.now }
     ensures { PlacesGiven (rules_of g) (spelled s) list.old list.new result }
 {

@@ -18,7 +18,7 @@ use Rattle.grammar.specs.Rows.{row_count}
 use Rattle.grammar.proofs.ChoiceLaws.{first_unique}
 use Rattle.rows.specs.declared.Step.{Step}
 use Rattle.tree_choices.specs.Picks.{PickedStep}
-use Rattle.tree_choices.proofs.Pending.{node_shape}
+use Rattle.tree_choices.proofs.Pending.{kind_at, node_shape}
 use Rattle.row_counts.specs.Capped.{capped}
 use Rattle.row_counts.specs.Nulls.{Nulls, Sound, one_more_of, two_more_of, null_size, KidsKnown}
 use Rattle.row_counts.specs.Nulls.{zeros}
@@ -67,15 +67,14 @@ module _ {g : Rules} where
         ap₂ (λ (a b : ℕ). capped (suc (a + b))) e f ∙ capped_suc_two m n
 
     -- where the children's are known, the node's is found
-    size_known : (m : Bool) (t : Tree) → AllPreferred g t → word t ≡ [] → KidsKnown z t
-        → null_size z (node_shape m t).kind (node_shape m t).first (node_shape m t).second
-        ≡ capped (row_count t)
+    size_known : (t : Tree) → AllPreferred g t → word t ≡ [] → KidsKnown z t
+        → null_size z (kind_at t) ≡ capped (row_count t)
     unfolding capped
-    size_known m (empty A) f e k = refl
-    size_known m (leaf A t) f e k = refl
-    size_known m (unary A t) f e k =
+    size_known (empty A) f e k = refl
+    size_known (leaf A t) f e k = refl
+    size_known (unary A t) f e k =
         one_more (get_or z (root t) 0) (row_count t) (known_count (root t) t (first-of f.1 e) k) k
-    size_known m (binary A s t) f e k =
+    size_known (binary A s t) f e k =
         let w = no_parts (word s) (word t) e in
         two_more (get_or z (root s) 0) (get_or z (root t) 0) (row_count s) (row_count t)
         (known_count (root s) s (first-of f.1.0 w.0) k.0)
@@ -91,13 +90,11 @@ module _ {g : Rules} where
     two_known (suc x) (suc y) h = (omega arith, omega arith)
 
     -- and where it is found, the children's are known
-    kids_known : (m : Bool) (t : Tree)
-        → 0 < null_size z (node_shape m t).kind (node_shape m t).first (node_shape m t).second
-        → KidsKnown z t
-    kids_known m (empty A) h = tt
-    kids_known m (leaf A t) h = tt
-    kids_known m (unary A t) h = one_known (get_or z (root t) 0) h
-    kids_known m (binary A s t) h = two_known (get_or z (root s) 0) (get_or z (root t) 0) h
+    kids_known : (t : Tree) → 0 < null_size z (kind_at t) → KidsKnown z t
+    kids_known (empty A) h = tt
+    kids_known (leaf A t) h = tt
+    kids_known (unary A t) h = one_known (get_or z (root t) 0) h
+    kids_known (binary A s t) h = two_known (get_or z (root s) 0) (get_or z (root t) 0) h
 
     -- ---- one try
 
@@ -106,22 +103,20 @@ module _ {g : Rules} where
       tried_shape : st ≡ node_shape st.seeking t
       tried_shape = first_shape d t f.first A [] f.rooted f.spelled st c
 
-      tried_size : null_size z st.kind st.first st.second
-          ≡ null_size z (node_shape st.seeking t).kind (node_shape st.seeking t).first
-          (node_shape st.seeking t).second
-      tried_size = ap (λ (x : Step). null_size z x.kind x.first x.second) tried_shape
+      tried_size : null_size z st.kind ≡ null_size z (kind_at t)
+      tried_size = ap (λ (x : Step). null_size z x.kind) tried_shape
 
-      pub found_size : (n : ℕ) → n ≡ null_size z st.kind st.first st.second → 0 < n
+      pub found_size : (n : ℕ) → n ≡ null_size z st.kind → 0 < n
           → n ≡ capped (row_count t)
       found_size n e h =
-          let k = kids_known st.seeking t (omega (arith, tried_size)) in
-          e ∙ tried_size ∙ size_known st.seeking t f.first f.spelled k
+          let k = kids_known t (omega (arith, tried_size)) in
+          e ∙ tried_size ∙ size_known t f.first f.spelled k
 
-      pub not_known : null_size z st.kind st.first st.second ≡ 0 → KidsKnown z t → ⊥
+      pub not_known : null_size z st.kind ≡ 0 → KidsKnown z t → ⊥
       not_known e k = omega (
         arith,
         tried_size,
-        size_known st.seeking t f.first f.spelled
+        size_known t f.first f.spelled
             k,
         capped_pos (row_count t) (some_row t),
       )

@@ -7,7 +7,7 @@ use Rattle.grammar.specs.Layout.{Word}
 use Rattle.grammar.specs.Rows.{row_count}
 use Rattle.grammar.proofs.ChoiceLaws.{first_unique, second_tree_unique}
 use Rattle.grammar.proofs.VerdictLaws.{none_not_one, none_not_two, one_not_two}
-use Rattle.row_counts.specs.declared.RowCount.{RowCount}
+use Rattle.std.specs.Prelude.{Option, Some, None}
 use Rattle.row_counts.specs.RowCounts.{Counted, treeless, single, both, Tells}
 use Rattle.row_counts.specs.Capped.{capped}
 use Rattle.grammar.specs.Distinct.{Distinct}
@@ -39,8 +39,8 @@ counted_unique d (both p f s x y) (both q f' s' a b) = (
       ∙ sym b,
 )
 
-pub tells_one : (a b : RowCount) (n : ℕ) → Tells a n → Tells b n → a ≡ b
-tells_one (RowCount.Exact c) (RowCount.Exact e) n p q = ap RowCount.Exact (p.0 ∙ sym q.0)
-tells_one (RowCount.Exact c) RowCount.More n p q = absurd (omega (arith, p.1))
-tells_one RowCount.More (RowCount.Exact e) n p q = absurd (omega (arith, q.1))
-tells_one RowCount.More RowCount.More n p q = refl
+pub tells_one : (a b : Option ℕ) (n : ℕ) → Tells a n → Tells b n → a ≡ b
+tells_one (Some c) (Some e) n p q = ap Some (p.0 ∙ sym q.0)
+tells_one (Some c) None n p q = absurd (omega (arith, p.1))
+tells_one None (Some e) n p q = absurd (omega (arith, q.1))
+tells_one None None n p q = refl

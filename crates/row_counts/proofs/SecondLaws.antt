@@ -1,6 +1,7 @@
 -- The way down the second tree: what holds between two turns, one turn, and the end.
 use mathlib.Core.Path.{◌≡◌, refl, sym, ap, ◌∙◌, subst}
 use mathlib.Core.Bool.{Bool, true, false}
+use mathlib.Core.Logic.{◌⊎◌, ⊎_elim}
 use mathlib.Core.List.{List, [], ◌∷◌, ◌++◌}
 use Prim.Native.Nat.{ℕ, suc, ◌+◌, ◌-◌, ◌≤◌, ◌<◌}
 use native.Mathlib.Omega.{arith}
@@ -8,6 +9,8 @@ use lib.ListN.{length, length-append}
 use Rattle.sets.proofs.Basics.{clash}
 use Rattle.sets.specs.Sets.{In}
 use Rattle.grammar.specs.declared.Grammar.{Grammar}
+use Rattle.grammar.specs.declared.Sentence.{Sentence}
+use Rattle.grammar.specs.Sentences.{spelled}
 use Rattle.grammar.specs.Layout.{Word}
 use Rattle.grammar.specs.Trees.{Tree, empty, leaf, unary, binary, root, word, Rules}
 use Rattle.grammar.specs.Choices.{AllPreferred, FirstTree, Second, SecondTree, Preferred, Beneath}
@@ -18,14 +21,20 @@ use Rattle.grammar.specs.SpanSheet.{part, second_word, SpanSheet}
 use Rattle.grammar.proofs.ChoiceLaws.{second_tree_unique, second_rooted, second_spelled, two_trees}
 use Rattle.grammar.proofs.ChoiceLaws.{two_not_only}
 use Rattle.marks.proofs.Words.{cut, part_length}
+use Rattle.std.specs.Prelude.{Option, Some, None}
+use Rattle.rows.specs.declared.Kind.{Kind}
 use Rattle.rows.specs.declared.Step.{Step}
-use Rattle.tree_choices.specs.Wanted.{Wanted}
+use Rattle.rows.specs.Steps.{LeftWithin}
+use Rattle.tree_choices.specs.Wanted.{Ready, Wanted}
 use Rattle.tree_choices.specs.Picks.{PickedStep, HasChoice}
-use Rattle.tree_choices.proofs.Pending.{Pending, node_shape, kids, Fork, now, later, Aim, AllFirst}
+use Rattle.tree_choices.proofs.Pending.{Pending, node_shape, kind_at, kids, Fork, now, later}
+use Rattle.tree_choices.proofs.Pending.{Aim, AllFirst}
 use Rattle.tree_choices.proofs.Pending.{aim_step, aim_choice}
+use Rattle.row_counts.specs.declared.Part.{Part}
 use Rattle.row_counts.specs.declared.Way.{Way}
 use Rattle.row_counts.specs.Capped.{capped}
-use Rattle.row_counts.specs.Seconds.{Parted, Onward, BesideThere, Beside}
+use Rattle.row_counts.specs.Seconds.{Parted, PartedThere, Onward, OnwardTwo, BesideThere, Beside}
+use Rattle.row_counts.specs.Walks.{Leaf}
 use Rattle.row_counts.proofs.CappedLaws.{capped_one, sum_on, few_on, one_is}
 use Rattle.row_counts.proofs.Firsts.{root_small, all_of}
 use Rattle.grammar.specs.Distinct.{Distinct}
@@ -33,63 +42,73 @@ use Rattle.grammar.specs.Distinct.{Distinct}
 -- ---- a node with first trees beneath
 
 -- both children of a tree u
-pub record Two (g : Rules) (w : Word) (st : Step) (i l : ℕ) (u : Tree) : Type 0 where
+pub record Two (g : Rules) (w : Word) (B C k i l : ℕ) (u : Tree) : Type 0 where
   pub left : Tree
   pub right : Tree
-  pub first : FirstTree g st.first (part w i st.split) left
-  pub second : FirstTree g st.second (part w (i + st.split) (l - st.split)) right
+  pub first : FirstTree g B (part w i k) left
+  pub second : FirstTree g C (part w (i + k) (l - k)) right
   pub rows : row_count u ≡ suc (row_count left + row_count right)
-  pub small : (st.first < 64) × (st.second < 64)
-  pub split : st.split ≤ l
+  pub small : (B < 64) × (C < 64)
+  pub split : k ≤ l
 
-module _ {g : Grammar} {w : Word} {st : Step} {i l : ℕ} (f : Formed g)
-    (fit : i + l ≤ length w) where
-  -- its children
-  pub under_one : (u : Tree) → Parted (rules_of g) w st i l u → st.kind ≡ 2
-      → (t : Tree) × FirstTree (rules_of g) st.first (part w i l) t
-      × (row_count u ≡ suc (row_count t)) × (st.first < 64)
-  under_one (empty A) p k = absurd (omega (arith, ap (λ (y : Step). y.kind) p.shaped))
-  under_one (leaf A y) p k = absurd (omega (arith, ap (λ (y : Step). y.kind) p.shaped))
-  under_one (unary A t) p k =
-      let e : st.first ≡ root t = ap (λ (y : Step). y.first) p.shaped in (
-        t,
-        record { rooted = sym e; spelled = p.spelled; first = p.beneath },
-        refl,
-        omega
-            (arith, root_small f t p.beneath),
-      )
-  under_one (binary A t u) p k = absurd (omega (arith, ap (λ (y : Step). y.kind) p.shaped))
+-- its only child
+pub record One (g : Rules) (w : Word) (B i l : ℕ) (u : Tree) : Type 0 where
+  pub tree : Tree
+  pub first : FirstTree g B (part w i l) tree
+  pub rows : row_count u ≡ suc (row_count tree)
+  pub small : B < 64
 
-  pub under_none : (u : Tree) → Parted (rules_of g) w st i l u → st.kind < 2 → row_count u ≡ 1
-  under_none (empty A) p k = refl
-  under_none (leaf A y) p k = refl
-  under_none (unary A t) p k = absurd (omega (arith, ap (λ (y : Step). y.kind) p.shaped))
-  under_none (binary A t u) p k = absurd (omega (arith, ap (λ (y : Step). y.kind) p.shaped))
+-- the children of a tree u whose top is of this kind
+abbrev pub Children : Rules → Word → ℕ → ℕ → Tree → Kind → Type 0
+Children g w i l u Kind.Empty = row_count u ≡ 1
+Children g w i l u Kind.Atom = row_count u ≡ 1
+Children g w i l u (Kind.Unary B) = One g w B i l u
+Children g w i l u (Kind.Binary B C k) = Two g w B C k i l u
+Children g w i l u Kind.Closed = row_count u ≡ 1
 
-  pub under_two : (u : Tree) → Parted (rules_of g) w st i l u → (st.kind < 2 → ⊥)
-      → (st.kind ≡ 2 → ⊥)
-      → Two (rules_of g) w st i l u
-  under_two (empty A) p k m = absurd (k (omega (arith, ap (λ (y : Step). y.kind) p.shaped)))
-  under_two (leaf A y) p k m = absurd (k (omega (arith, ap (λ (y : Step). y.kind) p.shaped)))
-  under_two (unary A t) p k m = absurd (m (ap (λ (y : Step). y.kind) p.shaped))
-  under_two (binary A t u) p k m =
-      let e : st.first ≡ root t = ap (λ (y : Step). y.first) p.shaped in
-      let h : st.second ≡ root u = ap (λ (y : Step). y.second) p.shaped in
-      let j : st.split ≡ length (word t) = ap (λ (y : Step). y.split) p.shaped in
-      let c = cut w (word t) (word u) i l fit p.spelled in
+module _ {g : Grammar} (f : Formed g) (w : Word) (i l : ℕ) (fit : i + l ≤ length w) where
+  children_of : (u : Tree) → word u ≡ part w i l
+      → Beneath (rules_of g) (Preferred (rules_of g)) u
+      → Children (rules_of g) w i l u (kind_at u)
+  children_of (empty A) v b = refl
+  children_of (leaf A y) v b = refl
+  children_of (unary A t) v b = record {
+    tree = t;
+    first = record { rooted = refl; spelled = v; first = b };
+    rows = refl;
+    small = root_small f t b;
+  }
+  children_of (binary A t u) v b =
+      let c = cut w (word t) (word u) i l fit v in
       record {
         left = t;
         right = u;
-        first = record { rooted = sym e; spelled = rw j c.front; first = p.beneath.0 };
-        second = record { rooted = sym h; spelled = rw j c.rest; first = p.beneath.1 };
+        first = record { rooted = refl; spelled = c.front; first = b.0 };
+        second = record { rooted = refl; spelled = c.rest; first = b.1 };
         rows = refl;
-        small = (
-          omega (arith, root_small f t p.beneath.0),
-          omega
-              (arith, root_small f u p.beneath.1),
-        );
+        small = (root_small f t b.0, root_small f u b.1);
         split = omega (arith, c.fits);
       }
+
+module _ {g : Grammar} {s : Sentence} {ws hs : List ℕ} (r : Ready g s ws hs) {st : Step} {i l : ℕ}
+    (fit : i + l ≤ s.count) where
+  pub children : (u : Tree) → Parted (rules_of g) (spelled s) st i l u → (kind : Kind)
+      → st.kind ≡ kind → Children (rules_of g) (spelled s) i l u kind
+  children u p kind e =
+      subst (Children (rules_of g) (spelled s) i l u)
+      (sym (ap (λ (y : Step). y.kind) p.shaped) ∙ e)
+      (children_of r.formed (spelled s) i l (omega (arith, r.positioned.whole)) u p.spelled
+      p.beneath)
+
+  pub children_there : (x : PartedThere (rules_of g) (spelled s) st i l) (kind : Kind)
+      → st.kind ≡ kind → Children (rules_of g) (spelled s) i l x.tree kind
+  children_there x kind e = children x.tree x.parted kind e
+
+  pub no_children : (u : Tree) → Parted (rules_of g) (spelled s) st i l u
+      → (st.kind ≡ Kind.Empty) ⊎ ((st.kind ≡ Kind.Atom) ⊎ (st.kind ≡ Kind.Closed))
+      → row_count u ≡ 1
+  no_children u p k = ⊎_elim (children u p Kind.Empty)
+      (⊎_elim (children u p Kind.Atom) (children u p Kind.Closed)) k
 
 pub one_capped : (n : ℕ) → n ≡ 1 → 1 ≡ capped n
 unfolding capped
@@ -103,9 +122,6 @@ pub two_sum : (x y s r m n o : ℕ) → x ≡ capped m → y ≡ capped n → s 
     → r ≡ capped (1 + s) → o ≡ suc (m + n) → r ≡ capped o
 unfolding capped
 two_sum x y s r m n o a b c d e = omega arith
-
-pub not_both : {b : Bool} → b ≡ true → b ≡ false → ⊥
-not_both e h = clash cc
 
 -- ---- between two turns
 
@@ -122,9 +138,9 @@ pub record SecondWalk (g : Rules) (w : Word) (goal a i l total : ℕ) : Type 0 w
 
 -- what the way is for: the child beside it is a first tree, and the way goes on
 pub record Onway (g : Rules) (w : Word) (goal total : ℕ) (d : Way) : Type 0 where
-  pub beside : BesideThere g w d
-  pub on : (own total' : ℕ) → Beside g w d own → total' ≡ capped (total + own)
-      → SecondWalk g w goal d.name d.start d.long total'
+  pub beside : BesideThere g w d.beside
+  pub on : (own total' : ℕ) → Beside g w d.beside own → total' ≡ capped (total + own)
+      → SecondWalk g w goal d.on.name d.on.start d.on.long total'
 
 module _ {g : Grammar} {w : Word} {goal a i l total : ℕ} (f : Formed g)
     (x : SecondWalk (rules_of g) w goal a i l total) where
@@ -218,123 +234,104 @@ module _ {g : Grammar} {w : Word} {goal a i l total : ℕ} (f : Formed g)
             few = few_on total own total' m;
           }
 
-      pub onway : (d : Way) → Onward (In (second_word ws (length w) i st.split) st.first)
-          st.kind st.first st.second st.split i l d → Onway (rules_of g) w goal total d
-      onway d o = go x.second refl stepped.0 word_is
+      pub onway : (d : Way) → Onward ws (length w) st.kind i l d → Onway (rules_of g) w goal total d
+      onway d o = go x.second refl word_is
+          (subst (λ (k : Kind). Onward ws (length w) k i l d)
+          (ap (λ (y : Step). y.kind) stepped.0) o)
           (aim_fork st.seeking seek stepped.1).1
           (aim_fork st.seeking seek stepped.1).2
         where
-          go_both : (A : ℕ) (u u' : Tree) {ts : List Pending} → x.second ≡ binary A u u'
-              → st ≡ node_shape st.seeking (binary A u u') → word (binary A u u') ≡ part w i l
-              → AllFirst (rules_of g) ts → Fork (rules_of g) ts (kids (binary A u u') i ++ [])
-              → Onway (rules_of g) w goal total d
-          go_both A u u' q e v fs (later p (later {ps = ps} _ x20)) = elim x20 [ ]
-          go_both A u u' q e v fs (now {t = t} b) =
-              let kind : st.kind ≡ 3 = ap (λ (y : Step). y.kind) e in
-              let fst : st.first ≡ root u = ap (λ (y : Step). y.first) e in
-              let snd : st.second ≡ root u' = ap (λ (y : Step). y.second) e in
-              let spl : st.split ≡ length (word u) = ap (λ (y : Step). y.split) e in
-              let c = cut w (word u) (word u') i l x.fits v in
-              let k : st.split ≤ l = omega (arith, c.fits) in
-              let vu : word u ≡ part w i st.split = rw spl c.front in
-              let vu' : word u' ≡ part w (i + st.split) (l - st.split) = rw spl c.rest in
-              let fl : i + st.split ≤ length w = omega (arith, x.fits) in
-              let fr : i + st.split + (l - st.split) ≤ length w = omega (arith, x.fits) in
-              let vt : word t ≡ part w i st.split = sym (second_spelled b) ∙ vu in
-              let rt : root t ≡ st.first = sym (second_rooted b) ∙ sym fst in
-              let two : In (second_word ws (length w) i st.split) st.first = subst
-              (λ (j : ℕ). In (second_word ws (length w) i st.split) j) rt
-              (two_of i st.split fl fs.0 b vt) in
-              let y = o.left (omega arith) two in
-              let ft : FirstTree (rules_of g) st.second (part w (i + st.split) (l - st.split))
-              u' = record { rooted = sym snd; spelled = vu'; first = fs.1.0 } in
-              let ft' : FirstTree (rules_of g) d.other (part w d.from d.rest) u' =
-              rw (y.4, y.5, y.6) ft in
-              record {
-                beside =
-                    record {
-                      small = λ m. rw y.4 (omega (arith, root_small f u' fs.1.0));
-                      fits = λ m. rw (y.5, y.6) fr;
-                      there = λ m. record { tree = u'; first = ft' };
-                    };
-                on =
-                    λ own total' z s. rw (y.2, y.3)
-                    (going t u d.name i st.split fs.0 b (rt ∙ sym y.1) vt fl own
-                    total' (row_count u') (z.other y.0 u' ft') s (rw q (omega arith)));
-              }
-          go_both A u u' q e v fs (later p (now {t = t} b)) =
-              let kind : st.kind ≡ 3 = ap (λ (y : Step). y.kind) e in
-              let fst : st.first ≡ root u = ap (λ (y : Step). y.first) e in
-              let snd : st.second ≡ root u' = ap (λ (y : Step). y.second) e in
-              let spl : st.split ≡ length (word u) = ap (λ (y : Step). y.split) e in
-              let c = cut w (word u) (word u') i l x.fits v in
-              let k : st.split ≤ l = omega (arith, c.fits) in
-              let vu : word u ≡ part w i st.split = rw spl c.front in
-              let vu' : word u' ≡ part w (i + st.split) (l - st.split) = rw spl c.rest in
-              let fl : i + st.split ≤ length w = omega (arith, x.fits) in
-              let fr : i + st.split + (l - st.split) ≤ length w = omega (arith, x.fits) in
-              let vt : word t ≡ part w (i + st.split) (l - st.split) =
-              sym (second_spelled b) ∙ vu' in
-              let rt : root t ≡ st.second = sym (second_rooted b) ∙ sym snd in
-              let y = o.right (omega arith) (λ two. one_of u i st.split fl fs.0 p vu
-              (subst (λ (j : ℕ). In (second_word ws (length w) i st.split) j) fst two)) in
-              let ft : FirstTree (rules_of g) st.first (part w i st.split) u =
-              record { rooted = sym fst; spelled = vu; first = fs.0 } in
-              let ft' : FirstTree (rules_of g) d.other (part w d.from d.rest) u =
-              rw (y.4, y.5, y.6) ft in
-              record {
-                beside =
-                    record {
-                      small = λ m. rw y.4 (omega (arith, root_small f u fs.0));
-                      fits = λ m. rw (y.5, y.6) fl;
-                      there = λ m. record { tree = u; first = ft' };
-                    };
-                on =
-                    λ own total' z s. rw (y.2, y.3)
-                    (going t u' d.name (i + st.split) (l - st.split) fs.1.0 b
-                    (rt ∙ sym y.1) vt fr own total' (row_count u) (z.other y.0 u ft')
-                    s (rw q (omega arith)));
-              }
-
-          go : {ts : List Pending} (u : Tree) → x.second ≡ u → st ≡ node_shape st.seeking u
-              → word u ≡ part w i l → AllFirst (rules_of g) ts
-              → Fork (rules_of g) ts (kids u i ++ []) → Onway (rules_of g) w goal total d
-          go {ts = ts} (empty _) q e v fs x7 = elim x7 [ ]
-          go {ts = ts} (leaf _ _) q e v fs x9 = elim x9 [ ]
-          go (unary A _) q e v fs (later {t = t} {ps = ps} p x29) = elim x29 [ ]
-          go (unary A u) q e v fs (now {t = t} b) =
-              let kind : st.kind ≡ 2 = ap (λ (y : Step). y.kind) e in
-              let fst : st.first ≡ root u = ap (λ (y : Step). y.first) e in
-              let y = o.low (omega arith) in
+          -- the way goes on in t, with second tree u, and the first tree t' stands beside
+          both : {t u : Tree} (t' : Tree) (p q : Part) → AllPreferred (rules_of g) t
+              → Second (rules_of g) t u → AllPreferred (rules_of g) t'
+              → root t ≡ p.name → word t ≡ part w p.start p.long
+              → p.start + p.long ≤ length w → root t' ≡ q.name → word t' ≡ part w q.start q.long
+              → q.start + q.long ≤ length w → row_count x.second ≡ suc (row_count t' + row_count u)
+              → Onway (rules_of g) w goal total (record { on = p; beside = Some q })
+          both {t} {u} t' p q fs b fs' rt vt ft rt' vt' ft' e =
+              let k : FirstTree (rules_of g) q.name (part w q.start q.long) t' =
+              record { rooted = rt'; spelled = vt'; first = fs' } in
               record {
                 beside = record {
-                  small = λ m. absurd (not_both y.0 m);
-                  fits = λ m. absurd
-                      (not_both y.0 m);
-                  there = λ m. absurd (not_both y.0 m);
+                  small = rw (← rt') (root_small f t' fs');
+                  fits = ft';
+                  there = record { tree = t'; first = k };
                 };
-                on =
-                    λ own total' z s. rw (y.2, y.3)
-                    (going t u d.name i l fs.0 b
-                    (sym (second_rooted b) ∙ sym fst ∙ sym y.1)
-                    (sym (second_spelled b) ∙ v) x.fits own total' 0
-                    (z.alone y.0 ∙ one_is) s (rw q (omega arith)));
+                on = λ own total' z s.
+                    going t u p.name p.start p.long fs b rt vt ft own total' (row_count t') (z t' k)
+                    s e;
               }
-          go (binary A u u') q e v fs x = go_both A u u' q e v fs x
+
+          go_both : (A : ℕ) (u u' : Tree) {ts : List Pending} → x.second ≡ binary A u u'
+              → word (binary A u u') ≡ part w i l
+              → OnwardTwo (In (second_word ws (length w) i (length (word u))) (root u)) (root u)
+              (root u') (length (word u)) i l d
+              → AllFirst (rules_of g) ts → Fork (rules_of g) ts (kids (binary A u u') i ++ [])
+              → Onway (rules_of g) w goal total d
+          go_both A u u' q v o fs (later p (later {ps = ps} _ x20)) = elim x20 [ ]
+          go_both A u u' q v o fs (now {t = t} b) =
+              let c = cut w (word u) (word u') i l x.fits v in
+              let fl : i + length (word u) ≤ length w = omega (arith, x.fits, c.fits) in
+              let fr : i + length (word u) + (l - length (word u)) ≤ length w =
+              omega (arith, x.fits, c.fits) in
+              let vt : word t ≡ part w i (length (word u)) = sym (second_spelled b) ∙ c.front in
+              let two = subst (In (second_word ws (length w) i (length (word u))))
+              (sym (second_rooted b)) (two_of i (length (word u)) fl fs.0 b vt) in
+              rw (o.left two)
+              (both u' _ _ fs.0 b fs.1.0 (sym (second_rooted b)) vt fl refl c.rest fr
+              (rw q (omega arith)))
+          go_both A u u' q v o fs (later p (now {t = t} b)) =
+              let c = cut w (word u) (word u') i l x.fits v in
+              let fl : i + length (word u) ≤ length w = omega (arith, x.fits, c.fits) in
+              let fr : i + length (word u) + (l - length (word u)) ≤ length w =
+              omega (arith, x.fits, c.fits) in
+              let vt : word t ≡ part w (i + length (word u)) (l - length (word u)) =
+              sym (second_spelled b) ∙ c.rest in
+              rw (o.right (one_of u i (length (word u)) fl fs.0 p c.front))
+              (both u _ _ fs.1.0 b fs.0 (sym (second_rooted b)) vt fr refl c.front fl
+              (rw q (omega arith)))
+
+          go : {ts : List Pending} (u : Tree) → x.second ≡ u → word u ≡ part w i l
+              → Onward ws (length w) (kind_at u) i l d → AllFirst (rules_of g) ts
+              → Fork (rules_of g) ts (kids u i ++ []) → Onway (rules_of g) w goal total d
+          go (empty _) q v o fs y = absurd o
+          go (leaf _ _) q v o fs y = absurd o
+          go (unary A _) q v o fs (later {t = t} {ps = ps} p x29) = elim x29 [ ]
+          go (unary A u) q v o fs (now {t = t} b) =
+              rw o
+              (record {
+                beside = tt;
+                on = λ own total' z s.
+                    going t u (root u) i l fs.0 b (sym (second_rooted b))
+                    (sym (second_spelled b) ∙ v) x.fits own total' 0 (z ∙ one_is) s
+                    (rw q (omega arith));
+              })
+          go (binary A u u') q v o fs y = go_both A u u' q v o fs y
+
+      -- it is no leaf
+      pub no_leaf : Leaf st.kind → ⊥
+      no_leaf k = go x.second (subst Leaf (ap (λ (y : Step). y.kind) stepped.0) k)
+          (aim_fork st.seeking seek stepped.1).2
+        where
+          go : {ts : List Pending} (u : Tree) → Leaf (kind_at u)
+              → Fork (rules_of g) ts (kids u i ++ []) → ⊥
+          go {ts} (empty A) k y = elim y [ ]
+          go {ts} (leaf A z) k y = elim y [ ]
+          go {ts} (unary A u) k y = k
+          go {ts} (binary A u u') k y = k
 
     -- the children of a node lie in the span
-    pub split_le : st.split ≤ l
-    split_le = go x.second stepped.0 word_is
+    pub split_le : LeftWithin st.kind l
+    split_le = subst (λ (k : Kind). LeftWithin k l) (sym (ap (λ (y : Step). y.kind) stepped.0))
+        (go x.second word_is)
       where
-        go : (u : Tree) → st ≡ node_shape st.seeking u → word u ≡ part w i l → st.split ≤ l
-        go (empty A) e v = omega (arith, ap (λ (y : Step). y.split) e)
-        go (leaf A y) e v = omega (arith, ap (λ (y : Step). y.split) e)
-        go (unary A u) e v = omega (arith, ap (λ (y : Step). y.split) e)
-        go (binary A u u') e v = omega (
+        go : (u : Tree) → word u ≡ part w i l → LeftWithin (kind_at u) l
+        go (empty A) v = tt
+        go (leaf A y) v = tt
+        go (unary A u) v = tt
+        go (binary A u u') v = omega (
           arith,
-          ap (λ (y : Step). y.split) e,
-          length-append (word u)
-              (word u'),
+          length-append (word u) (word u'),
           ap length v,
           part_length w i l x.fits,
         )
@@ -374,16 +371,18 @@ pub second_all : {g : Rules} {w : Word} → Distinct g → (p : Wanted g 0 w tru
 second_all d p r e u f =
     e ∙ ap (λ (v : Tree). capped (row_count v)) (second_tree_unique d p.goal f)
 
--- the node's own row is there
-pub beside_some : {g : Rules} {w : Word} {d : Way} {r : ℕ} → BesideThere g w d → Beside g w d r
-    → (0 < r) × (r ≤ 4294967296)
+sum_some : (r n : ℕ) → r ≡ capped (1 + n) → 0 < r
 unfolding capped
-beside_some {d = d} {r} b x = go d.alone refl
-  where
-    go : (y : Bool) → d.alone ≡ y → (0 < r) × (r ≤ 4294967296)
-    go true e = (omega (arith, x.alone e), omega (arith, x.alone e))
-    go false e = let t = b.there e in (
-      omega (arith, x.other e t.tree t.first),
-      omega
-          (arith, x.other e t.tree t.first),
-    )
+sum_some r n e = omega arith
+
+sum_few : (r n : ℕ) → r ≡ capped (1 + n) → r ≤ 4294967296
+unfolding capped
+sum_few r n e = omega arith
+
+-- the node's own row is there
+pub beside_some : (g : Rules) (w : Word) (p : Option Part) (r : ℕ) → BesideThere g w p
+    → Beside g w p r → (0 < r) × (r ≤ 4294967296)
+beside_some g w None r b x = (omega arith, omega arith)
+beside_some g w (Some p) r b x =
+    let e = x b.there.tree b.there.first in
+    (sum_some r (row_count b.there.tree) e, sum_few r (row_count b.there.tree) e)

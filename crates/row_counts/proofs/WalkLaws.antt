@@ -5,7 +5,7 @@ use mathlib.Core.Bool.{false}
 use mathlib.Core.List.{List, [], ◌∷◌}
 use Prim.Native.Nat.{ℕ, ◌+◌, ◌-◌, ◌≤◌, ◌<◌}
 use native.Mathlib.Omega.{arith}
-use native.Mathlib.Decide.{ℕ_discrete, dec_lt}
+use native.Mathlib.Decide.{ℕ_discrete}
 use lib.ListN.{length, get_or, set, length-append}
 use lib.Seq.{get_or-set_same, get_or-set_other}
 use Rattle.grammar.specs.declared.Grammar.{Grammar}
@@ -18,14 +18,20 @@ use Rattle.grammar.specs.SpanSheet.{part}
 use Rattle.grammar.proofs.ChoiceLaws.{first_unique}
 use Rattle.grammar.proofs.ByKind.{no_word}
 use Rattle.marks.proofs.Words.{Cut, cut, part_length}
+use Rattle.std.specs.Prelude.{Some, None}
+use Rattle.std.proofs.lemmas.Option.{none-some, same_Some}
+use Rattle.rows.specs.declared.Kind.{Kind}
 use Rattle.rows.specs.declared.Step.{Step}
+use Rattle.rows.specs.Steps.{LeftWithin}
+use Rattle.row_counts.specs.declared.Below.{Below}
+use Rattle.row_counts.specs.declared.Child.{Child}
 use Rattle.tree_choices.specs.Picks.{PickedStep}
-use Rattle.tree_choices.proofs.Pending.{node_shape}
+use Rattle.tree_choices.proofs.Pending.{kind_at, node_shape}
 use Rattle.row_counts.specs.Capped.{capped}
 use Rattle.row_counts.specs.Nulls.{Nulls}
-use Rattle.row_counts.specs.Walks.{FirstThere, Own, Down}
+use Rattle.row_counts.specs.Walks.{FirstThere, Own, OwnTwo, Leaf, Under, UnderTwo}
 use Rattle.row_counts.proofs.Firsts.{first_shape, root_small}
-use Rattle.row_counts.proofs.CappedLaws.{capped_le, capped_one, capped_same, sum_on, few_on}
+use Rattle.row_counts.proofs.CappedLaws.{capped_one, capped_same, sum_on, few_on}
 use Rattle.row_counts.proofs.CappedLaws.{one_is}
 
 -- ---- what waits
@@ -34,23 +40,27 @@ abbrev pub rows_of_all : List Tree → ℕ
 rows_of_all [] = 0
 rows_of_all (t ∷ ts) = row_count t + rows_of_all ts
 
--- the trees that wait stand one after the other from pos on, and are noted by their start
-pub data TreeLine (names longs : List ℕ) (w : Word) (end : ℕ) : ℕ → List Tree → Type 0 where
-  done : {pos : ℕ} → pos ≡ end → TreeLine names longs w end pos []
-  next : {pos : ℕ} {t : Tree} {ts : List Tree} (n : ℕ) → word t ≡ part w pos n → 0 < n
-      → pos + n ≤ end → get_or names pos 0 ≡ root t → get_or longs pos 0 ≡ n
-      → TreeLine names longs w end (pos + n) ts → TreeLine names longs w end pos (t ∷ ts)
+-- no child
+abbrev pub nothing : Child
+nothing = record { name = 0; long = 0 }
 
-line_set : {names longs : List ℕ} {w : Word} {end pos : ℕ} {ts : List Tree} (x b c : ℕ) → x < pos
-    → TreeLine names longs w end pos ts → TreeLine (set names x b) (set longs x c) w end pos ts
-line_set x b c h (done e) = done e
-line_set {names} {longs} {pos = pos} x b c h (next n s p f u v r) =
-    next n s p f (get_or-set_other names x pos b 0 (λ e. omega arith) ∙ u)
-    (get_or-set_other longs x pos c 0 (λ e. omega arith) ∙ v) (line_set x b c (omega arith) r)
+-- the trees that wait stand one after the other from pos on, and are noted by their start
+pub data TreeLine (waits : List Child) (w : Word) (end : ℕ) : ℕ → List Tree → Type 0 where
+  done : {pos : ℕ} → pos ≡ end → TreeLine waits w end pos []
+  next : {pos : ℕ} {t : Tree} {ts : List Tree} (n : ℕ) → word t ≡ part w pos n → 0 < n
+      → pos + n ≤ end → get_or waits pos nothing ≡ record { name = root t; long = n }
+      → TreeLine waits w end (pos + n) ts → TreeLine waits w end pos (t ∷ ts)
+
+line_set : {waits : List Child} {w : Word} {end pos : ℕ} {ts : List Tree} (x : ℕ) (c : Child)
+    → x < pos → TreeLine waits w end pos ts → TreeLine (set waits x c) w end pos ts
+line_set x c h (done e) = done e
+line_set {waits} {pos = pos} x c h (next n s p f u r) =
+    next n s p f (get_or-set_other waits x pos c nothing (λ e. omega arith) ∙ u)
+    (line_set x c (omega arith) r)
 
 -- ---- between two turns
 
-pub record Walk (g : Rules) (w : Word) (goal : ℕ) (end : ℕ) (names longs : List ℕ)
+pub record Walk (g : Rules) (w : Word) (goal : ℕ) (end : ℕ) (waits : List Child)
     (a i l total : ℕ) : Type 0 where
   pub tree : Tree
   pub rest : List Tree
@@ -61,43 +71,44 @@ pub record Walk (g : Rules) (w : Word) (goal : ℕ) (end : ℕ) (names longs : L
   pub nonempty : 0 < l
   pub fits : i + l ≤ end
   pub within : end ≤ length w
-  pub line : TreeLine names longs w end (i + l) rest
+  pub line : TreeLine waits w end (i + l) rest
   pub sum : capped (total + (row_count tree + rows_of_all rest)) ≡ capped goal
   pub few : total ≤ 4294967296
 
 -- the sums
-pub rises : (total own total' : ℕ) → total < 4294967296 → 0 < own → total' ≡ capped (total + own)
-    → total < total'
-unfolding capped
-rises total own total' h k e = omega arith
-
 pub less_left : (total own total' : ℕ) → total < 4294967296 → 0 < own
     → total' ≡ capped (total + own) → 4294967296 - total' < 4294967296 - total
 unfolding capped
 less_left total own total' h k e = omega arith
 
-pub own_some : {z : List ℕ} {kind B C k l r : ℕ} → Own z kind B C k l r → 0 < r
+-- a node's own rows
+own_two : {z : List ℕ} {B C k l r : ℕ} → OwnTwo z B C k l r → (0 < r) × (r ≤ 4294967296)
 unfolding capped
-own_some {z} {kind} {B} {C} {k} {l} {r} o = go (dec_lt kind 3) (ℕ_discrete k 0) (ℕ_discrete k l)
+own_two {z} {B} {C} {k} {l} {r} o = go (ℕ_discrete k 0) (ℕ_discrete k l)
   where
-    go : Dec (kind < 3) → Dec (k ≡ 0) → Dec (k ≡ l) → 0 < r
-    go (yes x) y u = omega (arith, o.low x)
-    go (no x) (yes y) u = omega (arith, o.left (omega arith) y)
-    go (no x) (no y) (yes u) = omega (arith, o.right (omega arith) (omega arith) u)
-    go (no x) (no y) (no u) = omega (arith, o.inner (omega arith) (omega arith) u)
+    go : Dec (k ≡ 0) → Dec (k ≡ l) → (0 < r) × (r ≤ 4294967296)
+    go (yes y) u = (omega (arith, o.left y), omega (arith, o.left y))
+    go (no y) (yes u) =
+        (omega (arith, o.right (omega arith) u), omega (arith, o.right (omega arith) u))
+    go (no y) (no u) =
+        (omega (arith, o.inner (omega arith) u), omega (arith, o.inner (omega arith) u))
 
-pub own_le : {z : List ℕ} {kind B C k l r : ℕ} → Own z kind B C k l r → r ≤ 4294967296
-own_le {z} {kind} {B} {C} {k} {l} {r} o = go (dec_lt kind 3) (ℕ_discrete k 0) (ℕ_discrete k l)
-  where
-    go : Dec (kind < 3) → Dec (k ≡ 0) → Dec (k ≡ l) → r ≤ 4294967296
-    go (yes x) y u = omega (arith, o.low x)
-    go (no x) (yes y) u = omega (arith, o.left (omega arith) y, capped_le (1 + get_or z B 0))
-    go (no x) (no y) (yes u) =
-        omega (arith, o.right (omega arith) (omega arith) u, capped_le (1 + get_or z C 0))
-    go (no x) (no y) (no u) = omega (arith, o.inner (omega arith) (omega arith) u)
+own_some_le : (z : List ℕ) (kind : Kind) (l r : ℕ) → Own z kind l r
+    → (0 < r) × (r ≤ 4294967296)
+own_some_le z Kind.Empty l r o = (omega arith, omega arith)
+own_some_le z Kind.Atom l r o = (omega arith, omega arith)
+own_some_le z (Kind.Unary B) l r o = (omega arith, omega arith)
+own_some_le z (Kind.Binary B C k) l r o = own_two o
+own_some_le z Kind.Closed l r o = (omega arith, omega arith)
 
-module _ {g : Grammar} {w : Word} {goal end : ℕ} {names longs : List ℕ} {a i l total : ℕ}
-    (f : Formed g) (x : Walk (rules_of g) w goal end names longs a i l total)
+pub own_some : (z : List ℕ) (kind : Kind) (l r : ℕ) → Own z kind l r → 0 < r
+own_some z kind l r o = (own_some_le z kind l r o).0
+
+pub own_le : (z : List ℕ) (kind : Kind) (l r : ℕ) → Own z kind l r → r ≤ 4294967296
+own_le z kind l r o = (own_some_le z kind l r o).1
+
+module _ {g : Grammar} {w : Word} {goal end : ℕ} {waits : List Child} {a i l total : ℕ}
+    (f : Formed g) (x : Walk (rules_of g) w goal end waits a i l total)
     (z : List ℕ) (nulls : Nulls (rules_of g) z) (st : Step)
     (c : PickedStep (rules_of g) a (part w i l) false st) where
   shaped : st ≡ node_shape st.seeking x.tree
@@ -112,78 +123,94 @@ module _ {g : Grammar} {w : Word} {goal end : ℕ} {names longs : List ℕ} {a i
   null_count t h e = nulls.count (root t) t (root_small f t h)
       (record { rooted = refl; spelled = no_word (word t) e; first = h })
 
-  -- what a leaf leaves
-  module _ (own total' : ℕ) (o : Own z st.kind st.first st.second st.split l own)
-      (s : total' ≡ capped (total + own)) (k : st.kind < 2) where
-    leaf_long : l ≡ 1
-    leaf_long = go x.tree shaped long_is
-      where
-        go : (t : Tree) → st ≡ node_shape st.seeking t → length (word t) ≡ l → l ≡ 1
-        go (empty A) e h = absurd (omega (arith, x.nonempty))
-        go (leaf A y) e h = sym h
-        go (unary A t) e h = absurd (omega (arith, ap (λ (q : Step). q.kind) e))
-        go (binary A t u) e h = absurd (omega (arith, ap (λ (q : Step). q.kind) e))
+  kind_is : (t : Tree) → st ≡ node_shape st.seeking t → st.kind ≡ kind_at t
+  kind_is t e = ap (λ (y : Step). y.kind) e
 
-    leaf_rows : row_count x.tree ≡ 1
-    leaf_rows = go x.tree shaped
+  -- the left word lies in the span
+  pub walk_split : LeftWithin st.kind l
+  walk_split = subst (λ (k : Kind). LeftWithin k l) (sym (kind_is x.tree shaped))
+      (go x.tree long_is)
+    where
+      go : (t : Tree) → length (word t) ≡ l → LeftWithin (kind_at t) l
+      go (empty A) e = tt
+      go (leaf A y) e = tt
+      go (unary A t) e = tt
+      go (binary A t u) e = omega (arith, length-append (word t) (word u))
+
+  -- what a leaf leaves
+  module _ (own total' : ℕ) (o : Own z st.kind l own) (s : total' ≡ capped (total + own))
+      (k : Leaf st.kind) where
+    leaf_there : (l ≡ 1) × (row_count x.tree ≡ 1) × (own ≡ 1)
+    leaf_there = go x.tree shaped long_is
       where
-        go : (t : Tree) → st ≡ node_shape st.seeking t → row_count t ≡ 1
-        go (empty A) e = refl
-        go (leaf A y) e = refl
-        go (unary A t) e = absurd (omega (arith, ap (λ (q : Step). q.kind) e))
-        go (binary A t u) e = absurd (omega (arith, ap (λ (q : Step). q.kind) e))
+        go : (t : Tree) → st ≡ node_shape st.seeking t → length (word t) ≡ l
+            → (l ≡ 1) × (row_count t ≡ 1) × (own ≡ 1)
+        go (empty A) e h = absurd (omega (arith, x.nonempty))
+        go (leaf A y) e h =
+            (sym h, refl, subst (λ (q : Kind). Own z q l own) (kind_is (leaf A y) e) o)
+        go (unary A t) e h = absurd (subst Leaf (kind_is (unary A t) e) k)
+        go (binary A t u) e h = absurd (subst Leaf (kind_is (binary A t u) e) k)
+
+    leaf_long : l ≡ 1
+    leaf_long = leaf_there.0
 
     leaf_sum : capped (total' + rows_of_all x.rest) ≡ capped goal
     leaf_sum =
         sum_on total own total' 0 (rows_of_all x.rest) (row_count x.tree + rows_of_all x.rest)
-        goal x.sum (o.low (omega arith) ∙ one_is) s (omega (arith, leaf_rows))
+        goal x.sum (leaf_there.2 ∙ one_is) s (omega (arith, leaf_there.1))
 
     -- the walk is at its end
     pub leaf_end : i + 1 ≡ end → total' ≡ capped goal
     leaf_end e = go x.rest x.line leaf_sum
       where
-        go : (ts : List Tree) → TreeLine names longs w end (i + l) ts
+        go : (ts : List Tree) → TreeLine waits w end (i + l) ts
             → capped (total' + rows_of_all ts) ≡ capped goal → total' ≡ capped goal
         go [] d q = capped_same total' goal (few_on total own total' s) q
-        go (t ∷ ts) (next n b p r u v q) y = absurd (omega (arith, leaf_long))
+        go (t ∷ ts) (next n b p r u q) y = absurd (omega (arith, leaf_long))
 
     pub leaf_next : (i + 1 ≡ end → ⊥)
-        → Walk (rules_of g) w goal end names longs (get_or names (i + 1) 0) (i + 1)
-        (get_or longs (i + 1) 0) total'
+        → Walk (rules_of g) w goal end waits (get_or waits (i + 1) nothing).name (i + 1)
+        (get_or waits (i + 1) nothing).long total'
     leaf_next e = go x.rest x.firsts
-        (subst (λ (q : ℕ). TreeLine names longs w end (i + q) x.rest) leaf_long x.line)
+        (subst (λ (q : ℕ). TreeLine waits w end (i + q) x.rest) leaf_long x.line)
         leaf_sum
       where
         go : (ts : List Tree) → Every (AllPreferred (rules_of g)) ts
-            → TreeLine names longs w end (i + 1) ts → capped (total' + rows_of_all ts) ≡ capped goal
-            → Walk (rules_of g) w goal end names longs (get_or names (i + 1) 0) (i + 1)
-            (get_or longs (i + 1) 0) total'
+            → TreeLine waits w end (i + 1) ts → capped (total' + rows_of_all ts) ≡ capped goal
+            → Walk (rules_of g) w goal end waits (get_or waits (i + 1) nothing).name (i + 1)
+            (get_or waits (i + 1) nothing).long total'
         go [] fs (done q) y = absurd (e q)
-        go (t ∷ ts) fs (next n b p r u v q) y =
-            record {
+        go (t ∷ ts) fs (next n b p r u q) y =
+            rw u
+            (record {
               tree = t;
               rest = ts;
               first = fs.0;
               firsts = fs.1;
-              rooted = sym u;
-              spelled = rw v b;
-              nonempty = omega arith;
-              fits = omega arith;
+              rooted = refl;
+              spelled = b;
+              nonempty = p;
+              fits = r;
               within = x.within;
-              line = rw v q;
+              line = q;
               sum = y;
               few = few_on total own total' s;
-            }
+            })
 
   -- what another node leaves: its first child that has tokens, and the second where both have
-  module _ (own total' b n : ℕ) (o : Own z st.kind st.first st.second st.split l own)
-      (s : total' ≡ capped (total + own)) (k : 2 ≤ st.kind)
-      (d : Down st.kind st.first st.second st.split l b n) where
+  module _ (own total' : ℕ) (d : Below) (o : Own z st.kind l own)
+      (s : total' ≡ capped (total + own)) (dn : Under st.kind l d) where
+    abbrev b : ℕ
+    b = d.first.name
+
+    abbrev n : ℕ
+    n = d.first.long
+
     -- one child alone goes on
     one_on : (t : Tree) → AllPreferred (rules_of g) t → root t ≡ b → word t ≡ part w i l → n ≡ l
         → (e : ℕ) → own ≡ capped (1 + e)
         → row_count x.tree ≡ (1 + e) + row_count t
-        → Walk (rules_of g) w goal end names longs b i n total'
+        → Walk (rules_of g) w goal end waits b i n total'
     one_on t h r q m e p j =
         record {
           tree = t;
@@ -203,46 +230,39 @@ module _ {g : Grammar} {w : Word} {goal end : ℕ} {names longs : List ℕ} {a i
 
     -- the case of a tree
     abbrev Same : Type 0
-    Same = (n < l → ⊥) → Walk (rules_of g) w goal end names longs b i n total'
+    Same = d.right ≡ None → Walk (rules_of g) w goal end waits b i n total'
 
     abbrev Push : Type 0
     Push =
-        n < l → (length names ≡ 65) → (length longs ≡ 65) → (end ≤ 64)
-        → Walk (rules_of g) w goal end (set names (i + n) st.second) (set longs (i + n) (l - n))
-        b i n total'
+        (c : Child) → d.right ≡ Some c → (length waits ≡ 65) → (end ≤ 64)
+        → Walk (rules_of g) w goal end (set waits (i + n) c) b i n total'
 
     on : Same × (Push × (n ≤ l))
     on = go x.tree refl shaped x.first x.spelled
       where
         go : (t : Tree) → x.tree ≡ t → st ≡ node_shape st.seeking t → AllPreferred (rules_of g) t
             → word t ≡ part w i l → Same × (Push × (n ≤ l))
-        go (empty A) q e h v = absurd (omega (arith, ap (λ (y : Step). y.kind) e))
-        go (leaf A y) q e h v = absurd (omega (arith, ap (λ (y : Step). y.kind) e))
+        go (empty A) q e h v = absurd (subst (λ (y : Kind). Under y l d) (kind_is (empty A) e) dn)
+        go (leaf A y) q e h v = absurd (subst (λ (y : Kind). Under y l d) (kind_is (leaf A y) e) dn)
         go (unary A t) q e h v =
-            let kind : st.kind ≡ 2 = ap (λ (y : Step). y.kind) e in
-            let fst : st.first ≡ root t = ap (λ (y : Step). y.first) e in
-            let dn = d.low (omega arith) in (
-              λ _. one_on t h.1 (sym (dn.0 ∙ fst)) v dn.1 0 (o.low (omega arith) ∙ one_is)
-                  (rw q (omega arith)),
-              (λ m _ _ _. absurd (omega (arith, dn.1)), omega (arith, dn.1)),
+            let k = kind_is (unary A t) e in
+            let o' : own ≡ 1 = subst (λ (y : Kind). Own z y l own) k o in
+            let f : d ≡ record { first = record { name = root t; long = l }; right = None } =
+            subst (λ (y : Kind). Under y l d) k dn in
+            let be = ap (λ (y : Below). y.first.name) f in
+            let nt = ap (λ (y : Below). y.first.long) f in
+            let ri = ap (λ (y : Below). y.right) f in (
+              λ _. one_on t h.1 (sym be) v nt 0 (o' ∙ one_is) (rw q (omega arith)),
+              (λ C m _ _. absurd (none-some C (sym ri ∙ m)), omega (arith, nt)),
             )
         go (binary A t u) q e h v =
             cases (ℕ_discrete (length (word t)) 0) (ℕ_discrete (length (word t)) l)
           where
-            kind : st.kind ≡ 3
-            kind = ap (λ (y : Step). y.kind) e
+            o' : OwnTwo z (root t) (root u) (length (word t)) l own
+            o' = subst (λ (y : Kind). Own z y l own) (kind_is (binary A t u) e) o
 
-            three : 3 ≤ st.kind
-            three = omega (arith, kind)
-
-            fst : st.first ≡ root t
-            fst = ap (λ (y : Step). y.first) e
-
-            snd : st.second ≡ root u
-            snd = ap (λ (y : Step). y.second) e
-
-            split : st.split ≡ length (word t)
-            split = ap (λ (y : Step). y.split) e
+            dn' : UnderTwo (root t) (root u) (length (word t)) l d
+            dn' = subst (λ (y : Kind). Under y l d) (kind_is (binary A t u) e) dn
 
             cu : Cut w (word t) (word u) i l
             cu = cut w (word t) (word u) i l (omega (arith, x.fits, x.within)) v
@@ -253,87 +273,91 @@ module _ {g : Grammar} {w : Word} {goal end : ℕ} {names longs : List ℕ} {a i
 
             cases : Dec (length (word t) ≡ 0) → Dec (length (word t) ≡ l) → Same × (Push × (n ≤ l))
             cases (yes m) y =
-                let dn = d.left three (split ∙ m) in
+                let f = dn'.left m in
+                let be = ap (λ (y : Below). y.first.name) f in
+                let nt = ap (λ (y : Below). y.first.long) f in
+                let ri = ap (λ (y : Below). y.right) f in
                 let vu : word u ≡ part w i l = cu.rest ∙ ap₂ (part w)
                 (let j : i + length (word t) ≡ i = omega arith in j)
                 (let j : l - length (word t) ≡ l = omega arith in j) in
-                let cnt = o.left three (split ∙ m) ∙ ap (λ (j : ℕ). capped (1 + get_or z j 0)) fst
-                ∙ ap (λ (j : ℕ). capped (1 + j)) (null_count t h.1.0 m)
+                let cnt = o'.left m ∙ ap (λ (j : ℕ). capped (1 + j)) (null_count t h.1.0 m)
                 ∙ capped_one 1 (row_count t) in (
-                  λ _. one_on u h.1.1 (sym (dn.0 ∙ snd)) vu dn.1 (row_count t) cnt
+                  λ _. one_on u h.1.1 (sym be) vu (omega (arith, nt)) (row_count t) cnt
                       (rw q (omega arith)),
-                  (λ j _ _ _. absurd (omega (arith, dn.1)), omega (arith, dn.1)),
+                  (λ C j _ _. absurd (none-some C (sym ri ∙ j)), omega (arith, nt)),
                 )
             cases (no m) (yes y) =
-                let dn = d.right three (omega (arith, split)) in
+                let f = dn'.right (omega arith) y in
+                let be = ap (λ (y : Below). y.first.name) f in
+                let nt = ap (λ (y : Below). y.first.long) f in
+                let ri = ap (λ (y : Below). y.right) f in
                 let vt : word t ≡ part w i l = cu.front ∙ ap (part w i) y in
-                let cnt = o.right three (omega (arith, split)) (split ∙ y)
-                ∙ ap (λ (j : ℕ). capped (1 + get_or z j 0)) snd
-                ∙ ap (λ (j : ℕ). capped (1 + j))
+                let cnt = o'.right (omega arith) y ∙ ap (λ (j : ℕ). capped (1 + j))
                 (null_count u h.1.1 (omega (arith, all)))
                 ∙ capped_one 1 (row_count u) in (
-                  λ _. one_on t h.1.0 (sym (dn.0 ∙ fst)) vt (dn.1 ∙ split ∙ y) (row_count u)
-                      cnt (rw q (omega arith)),
-                  (λ j _ _ _. absurd (omega (arith, dn.1, split)), omega (arith, dn.1, split)),
+                  λ _. one_on t h.1.0 (sym be) vt (nt ∙ y) (row_count u) cnt (rw q (omega arith)),
+                  (λ C j _ _. absurd (none-some C (sym ri ∙ j)), omega (arith, nt, y)),
                 )
             cases (no m) (no y) =
-                let dn = d.right three (omega (arith, split)) in
-                let nt : n ≡ length (word t) = dn.1 ∙ split in (
-                  λ j. absurd (j (omega (arith, all))),
-                  (λ j ln ll en. push nt dn.0 j ln ll en, omega (arith, all)),
+                let f = dn'.inner (omega arith) y in
+                let be = ap (λ (y : Below). y.first.name) f in
+                let nt = ap (λ (y : Below). y.first.long) f in
+                let ri = ap (λ (y : Below). y.right) f in (
+                  λ j. absurd (none-some right (sym j ∙ ri)),
+                  (
+                    λ c j lw en. push nt be c (same_Some c right (sym j ∙ ri)) lw en,
+                    omega (arith, nt, all),
+                  ),
                 )
               where
-                push : n ≡ length (word t) → b ≡ st.first → n < l → length names ≡ 65
-                    → length longs ≡ 65 → end ≤ 64
-                    → Walk (rules_of g) w goal end (set names (i + n) st.second)
-                    (set longs (i + n) (l - n)) b i n total'
-                push nt be j ln ll en =
+                right : Child
+                right = record { name = root u; long = l - length (word t) }
+
+                push : n ≡ length (word t) → b ≡ root t → (c : Child) → c ≡ right
+                    → length waits ≡ 65 → end ≤ 64
+                    → Walk (rules_of g) w goal end (set waits (i + n) c) b i n total'
+                push nt be c is lw en =
                     record {
                       tree = t;
                       rest = u ∷ x.rest;
                       first = h.1.0;
                       firsts = (h.1.1, x.firsts);
-                      rooted = sym (be ∙ fst);
+                      rooted = sym be;
                       spelled = rw nt cu.front;
                       nonempty = omega arith;
-                      fits = omega (arith, x.fits);
+                      fits = omega (arith, x.fits, all);
                       within = x.within;
                       line =
                           next {pos = i + n} {t = u} {ts = x.rest} (l - n) (rw nt cu.rest)
-                          (omega arith) (omega (arith, x.fits))
-                          (get_or-set_same names (i + n) st.second 0 (omega (arith, x.fits))
-                          ∙ snd)
-                          (get_or-set_same longs (i + n) (l - n) 0 (omega (arith, x.fits)))
-                          (subst (λ (p : ℕ). TreeLine (set names (i + n) st.second)
-                          (set longs (i + n) (l - n)) w end p x.rest)
-                          (let p : i + l ≡ i + n + (l - n) = omega arith in p)
-                          (line_set (i + n) st.second (l - n) (omega arith)
-                          x.line));
+                          (omega (arith, all)) (omega (arith, x.fits, all))
+                          (get_or-set_same waits (i + n) c nothing (omega (arith, x.fits, all))
+                          ∙ is ∙ ap (λ (k : ℕ). record { name = root u; long = l - k }) (sym nt))
+                          (subst (λ (p : ℕ). TreeLine (set waits (i + n) c) w end p x.rest)
+                          (let p : i + l ≡ i + n + (l - n) = omega (arith, all) in p)
+                          (line_set (i + n) c (omega (arith, all)) x.line));
                       sum =
                           sum_on total own total' 0 (row_count t
                           + (row_count u + rows_of_all x.rest))
                           (row_count x.tree + rows_of_all x.rest) goal x.sum
-                          (o.inner three (omega (arith, split))
-                          (λ p. y (sym split ∙ p)) ∙ one_is) s (rw q (omega arith));
+                          (o'.inner (omega arith) y ∙ one_is) s (rw q (omega arith));
                       few = few_on total own total' s;
                     }
 
-    pub down_same : (n < l → ⊥) → Walk (rules_of g) w goal end names longs b i n total'
+    pub down_same : d.right ≡ None → Walk (rules_of g) w goal end waits b i n total'
     down_same = on.0
 
-    pub down_push : n < l → length names ≡ 65 → length longs ≡ 65 → end ≤ 64
-        → Walk (rules_of g) w goal end (set names (i + n) st.second) (set longs (i + n) (l - n)) b i
-        n total'
+    pub down_push : (c : Child) → d.right ≡ Some c → length waits ≡ 65 → end ≤ 64
+        → Walk (rules_of g) w goal end (set waits (i + n) c) b i n total'
     down_push = on.1.0
 
     pub down_le : n ≤ l
     down_le = on.1.1
 
 -- the start, and the end where the count is too large
-pub walk_start : (g : Rules) (w : Word) (A i l : ℕ) (names longs : List ℕ)
+pub walk_start : (g : Rules) (w : Word) (A i l : ℕ) (waits : List Child)
     (p : FirstThere g A (part w i l)) → 0 < l → i + l ≤ length w
-    → Walk g w (row_count p.tree) (i + l) names longs A i l 0
-walk_start g w A i l names longs p h k =
+    → Walk g w (row_count p.tree) (i + l) waits A i l 0
+walk_start g w A i l waits p h k =
     record {
       tree = p.tree;
       rest = [];
@@ -350,8 +374,8 @@ walk_start g w A i l names longs p h k =
       few = omega arith;
     }
 
-pub walk_large : {g : Rules} {w : Word} {goal end : ℕ} {names longs : List ℕ} {a i l total : ℕ}
-    → Walk g w goal end names longs a i l total → (total < 4294967296 → ⊥) → total ≡ capped goal
+pub walk_large : {g : Rules} {w : Word} {goal end : ℕ} {waits : List Child} {a i l total : ℕ}
+    → Walk g w goal end waits a i l total → (total < 4294967296 → ⊥) → total ≡ capped goal
 unfolding capped
 walk_large x h = omega (arith, x.few, x.sum)
 
@@ -360,10 +384,9 @@ pub walk_all : {g : Rules} {A : ℕ} {w : Word} (p : FirstThere g A w) (r : ℕ)
 walk_all p r e t f = e ∙ ap (λ (u : Tree). capped (row_count u)) (first_unique p.first f)
 
 -- what holds between two turns of the loop: the rows of the wanted tree are under way
-pub record Going (g : Rules) (w : Word) (A j n end : ℕ) (names longs : List ℕ)
+pub record Going (g : Rules) (w : Word) (A j n end : ℕ) (waits : List Child)
     (a i l total : ℕ) : Type 0 where
   pub there : FirstThere g A (part w j n)
-  pub walk : Walk g w (row_count there.tree) end names longs a i l total
-  pub name_places : length names ≡ 65
-  pub long_places : length longs ≡ 65
+  pub walk : Walk g w (row_count there.tree) end waits a i l total
+  pub places : length waits ≡ 65
   pub low : end ≤ 64

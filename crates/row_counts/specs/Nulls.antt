@@ -6,6 +6,7 @@ use Rattle.grammar.specs.Layout.{Word}
 use Rattle.grammar.specs.Trees.{Tree, empty, leaf, unary, binary, root, Rules, Derives}
 use Rattle.grammar.specs.Choices.{FirstTree}
 use Rattle.grammar.specs.Rows.{row_count}
+use Rattle.rows.specs.declared.Kind.{Kind}
 use Rattle.row_counts.specs.Capped.{capped}
 
 -- what derives a word has a first tree of it
@@ -34,12 +35,13 @@ two_more_of zero y = 0
 two_more_of (suc x) zero = 0
 two_more_of (suc x) (suc y) = capped (suc (suc x + suc y))
 
--- the count of a node of a kind with children B and C, by theirs
-abbrev pub null_size : List ℕ → ℕ → ℕ → ℕ → ℕ
-null_size z zero B C = 1
-null_size z (suc zero) B C = 1
-null_size z (suc (suc zero)) B C = one_more_of (get_or z B 0)
-null_size z (suc (suc (suc k))) B C = two_more_of (get_or z B 0) (get_or z C 0)
+-- the count of a node of a kind, by those of its children
+abbrev pub null_size : List ℕ → Kind → ℕ
+null_size z Kind.Empty = 1
+null_size z Kind.Atom = 1
+null_size z (Kind.Unary B) = one_more_of (get_or z B 0)
+null_size z (Kind.Binary B C k) = two_more_of (get_or z B 0) (get_or z C 0)
+null_size z Kind.Closed = 1
 
 -- the counts of the children are known
 abbrev pub KidsKnown : List ℕ → Tree → Type 0

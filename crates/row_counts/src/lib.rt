@@ -9,14 +9,14 @@ ghost use Rattle.grammar.specs.Choices.{FirstTree, SecondTree};
 ghost use Rattle.grammar.specs.Cycles.{Cyclic};
 ghost use Rattle.grammar.specs.Rows.{row_count};
 ghost use Rattle.grammar.specs.Content.{rules_of};
-ghost use Rattle.sets.specs.Sets.{In};
-ghost use Rattle.grammar.specs.SpanSheet.{part, second_word};
+ghost use Rattle.grammar.specs.SpanSheet.{part};
 ghost use Rattle.tree_choices.specs.Wanted.{Charted, Ready, Wanted};
 ghost use Rattle.row_counts.specs.Capped.{capped};
 ghost use Rattle.row_counts.specs.RowCounts.{Tells};
 ghost use Rattle.row_counts.specs.Telling.{SecondCounted, RowsTold};
 ghost use Rattle.row_counts.specs.Nulls.{HasFirsts, Nulls, Sound, null_size, NullsTried};
 ghost use Rattle.row_counts.specs.Walks.{Own, Down, FirstThere};
+ghost use Rattle.rows.specs.Steps.{KidsSmall, LeftWithin};
 ghost use Rattle.row_counts.specs.Seconds.{Parted, PartedThere, Onto, Onward, BesideThere};
 ghost use Rattle.row_counts.specs.Seconds.{Beside};
 ghost use Rattle.grammar.specs.Sentences.{spelled};
@@ -24,8 +24,8 @@ ghost use Rattle.grammar.specs.Sentences.{spelled};
 use acyclic::cyclic;
 use grammar::{Grammar, Sentence};
 use heights::{HEIGHTS, heights};
-use rows::Step;
-use sets::{either, wide};
+use rows::{Kind, Step};
+use sets::either;
 use spans::{in_first, in_second};
 use tree_choices::choose;
 
@@ -37,36 +37,33 @@ fn add(a: u64, b: u64) -> u64
     requires { (a ≤ 4294967296) × (b ≤ 4294967296) }
     ensures { result ≡ capped (a + b) }
 {
-    let sum = a + b;
-    if sum < LIMIT { sum } else { LIMIT }
+    (a + b).min(LIMIT)
 }
 
-// The rows of a tree over the empty word, by its step and the counts of its children; 0 where one
-// of those is not known.
-fn null_size(z: &[u64], st: Step) -> u64
+// The rows of a tree over the empty word, by the kind of its top and the counts of its children; 0
+// where one of those is not known.
+// Kept: no tree has 0 rows, so 0 in the table is a count not known yet, as `zeros` counts them.
+fn null_size(z: &[u64], kind: Kind) -> u64
     requires z_len { length z.now ≡ 64 }
     requires by_index { (A : ℕ) → get_or z.now A 0 ≤ 4294967296 }
-    requires first_bound { (st.first < 64) × (st.second < 64) }
-    ensures { result ≡ null_size z.now st.kind st.first st.second }
+    requires small { KidsSmall kind }
+    ensures { result ≡ null_size z.now kind }
 {
-    let kind = st.kind;
-    if kind < 2 {
-        return 1;
+    match kind {
+        Kind::Unary(b) => {
+            let x = z[b as usize];
+            if x == 0 { 0 } else { add(1, x) }
+        }
+        Kind::Binary(b, e, _) => {
+            let x = z[b as usize];
+            if x == 0 {
+                return 0;
+            }
+            let y = z[e as usize];
+            if y == 0 { 0 } else { add(1, add(x, y)) }
+        }
+        Kind::Empty | Kind::Atom | Kind::Closed => 1,
     }
-    let b = wide(st.first);
-    let x = z[b];
-    if x == 0 {
-        return 0;
-    }
-    if kind == 2 {
-        return add(1, x);
-    }
-    let e = wide(st.second);
-    let y = z[e];
-    if y == 0 {
-        return 0;
-    }
-    add(1, add(x, y))
 }
 
 // Try to count the first tree of `a` over the empty word.
@@ -76,7 +73,7 @@ fn null_try(z: &mut [u64], words: &[u64], hs: &[u16], s: Sentence, g: Grammar, a
     requires sound { Sound (rules_of g) z.old }
     ensures { NullsTried (rules_of g) (λ B. B ≡ a) z.old z.new result }
 {
-    let at = wide(a);
+    let at = a as usize;
     if z[at] != 0 {
         return false;
     }
@@ -84,7 +81,7 @@ fn null_try(z: &mut [u64], words: &[u64], hs: &[u16], s: Sentence, g: Grammar, a
         return false;
     }
     let st = choose(words, hs, s, g, a, 0, 0, false);
-    let n = null_size(z, st);
+    let n = null_size(z, st.kind);
     if n == 0 {
         return false;
     }
@@ -100,11 +97,9 @@ fn null_pass(z: &mut [u64], words: &[u64], hs: &[u16], s: Sentence, g: Grammar) 
     ensures { NullsTried (rules_of g) (λ B. B < 64) z.old z.new result }
 {
     let mut more = false;
-    let mut a: u8 = 0;
-    while a < 64 {
+    for a in 0u8..64 {
         let found = null_try(z, words, hs, s, g, a);
         more = either(more, found);
-        a += 1;
     }
     more
 }
@@ -125,62 +120,84 @@ fn null_counts(z: &mut [u64], words: &[u64], hs: &[u16], s: Sentence, g: Grammar
     }
 }
 
-// A node that has tokens: its nonterminal and how many they are.
+// A child that has tokens: its nonterminal and how many they are.
 #[derive(Clone, Copy)]
-pub struct Below {
+pub struct Child {
     pub name: u8,
     pub long: u8,
 }
 
-// The rows of a node over `l` tokens by itself, with those of a child over the empty word.
-fn own(z: &[u64], st: Step, l: u8) -> u64
-    requires z_len { length z.now ≡ 64 }
-    requires by_index { (A : ℕ) → get_or z.now A 0 ≤ 4294967296 }
-    requires first_bound { (st.first < 64) × (st.second < 64) }
-    ensures { Own z.now st.kind st.first st.second st.split l result }
-{
-    if st.kind < 3 {
-        return 1;
-    }
-    if st.split == 0 {
-        let b = wide(st.first);
-        return add(1, z[b]);
-    }
-    if st.split == l {
-        let e = wide(st.second);
-        return add(1, z[e]);
-    }
-    1
+// What lies beneath a node over some tokens: its first child that has tokens, and the right one
+// where that has tokens too.
+#[derive(Clone, Copy)]
+pub struct Below {
+    pub first: Child,
+    pub right: Option<Child>,
 }
 
-// The first child that has tokens, of a node over `l` tokens that is no leaf.
-fn down(st: Step, l: u8) -> Below
-    ensures { Down st.kind st.first st.second st.split l result.name result.long }
+// The rows of a node over `l` tokens by itself, with those of a child over the empty word.
+fn own(z: &[u64], kind: Kind, l: u8) -> u64
+    requires z_len { length z.now ≡ 64 }
+    requires by_index { (A : ℕ) → get_or z.now A 0 ≤ 4294967296 }
+    requires small { KidsSmall kind }
+    ensures { Own z.now kind l result }
 {
-    let first = st.first;
-    let second = st.second;
-    let split = st.split;
-    if st.kind < 3 {
-        return Below {
-            name: first,
-            long: l,
-        };
+    match kind {
+        Kind::Binary(b, e, split) => {
+            if split == 0 {
+                add(1, z[b as usize])
+            } else if split == l {
+                add(1, z[e as usize])
+            } else {
+                1
+            }
+        }
+        Kind::Empty | Kind::Atom | Kind::Unary(_) | Kind::Closed => 1,
     }
-    if split == 0 {
-        return Below {
-            name: second,
-            long: l,
-        };
-    }
-    Below {
-        name: first,
-        long: split,
+}
+
+// What lies beneath a node over `l` tokens; nothing beneath a leaf.
+fn down(kind: Kind, l: u8) -> Option<Below>
+    requires { LeftWithin kind l }
+    ensures { Down kind l result }
+{
+    match kind {
+        Kind::Unary(b) => Some(Below {
+            first: Child { name: b, long: l },
+            right: None,
+        }),
+        Kind::Binary(b, e, split) => {
+            let left = Child {
+                name: b,
+                long: split,
+            };
+            let right = Child {
+                name: e,
+                long: l - split,
+            };
+            if split == 0 {
+                return Some(Below {
+                    first: right,
+                    right: None,
+                });
+            }
+            if split == l {
+                return Some(Below {
+                    first: left,
+                    right: None,
+                });
+            }
+            Some(Below {
+                first: left,
+                right: Some(right),
+            })
+        }
+        Kind::Empty | Kind::Atom | Kind::Closed => None,
     }
 }
 
 // The rows of the first tree of `b` over the span of `n` tokens from `j` on. A right child that
-// waits stands, by its start, in `names` and `longs`: what follows the leaf at `i` begins at `i` +
-// 1.
+// waits stands in `waits` by its start: what follows the leaf at `i` begins at `i` + 1.
 fn walk(words: &[u64], hs: &[u16], s: Sentence, g: Grammar, z: &[u64], b: u8, j: u8, n: u8) -> u64
     requires ready { Ready g s words.now hs.now × (0 < n) × (j + n ≤ s.count) }
     requires nulls { Nulls (rules_of g) z.now }
@@ -189,33 +206,30 @@ fn walk(words: &[u64], hs: &[u16], s: Sentence, g: Grammar, z: &[u64], b: u8, j:
         → result ≡ capped (row_count t) }
 {
     let end = j + n;
-    let mut names = [0u8; 65];
-    let mut longs = [0u8; 65];
+    let mut waits = [Child { name: 0, long: 0 }; 65];
     let mut a = b;
     let mut i = j;
     let mut l = n;
     let mut total = 0;
+    // Kept: a turn goes on to the next node, and how many there are is what is counted.
     while total < LIMIT {
         let st = choose(words, hs, s, g, a, i, l, false);
-        total = add(total, own(z, st, l));
-        if st.kind < 2 {
+        total = add(total, own(z, st.kind, l));
+        let Some(d) = down(st.kind, l) else {
             i += 1;
             if i == end {
                 return total;
             }
-            let at = wide(i);
-            a = names[at];
-            l = longs[at];
+            let next = waits[i as usize];
+            a = next.name;
+            l = next.long;
             continue;
+        };
+        if let Some(right) = d.right {
+            waits[i as usize + d.first.long as usize] = right;
         }
-        let d = down(st, l);
-        let at = wide(i) + wide(d.long);
-        if d.long < l {
-            names[at] = st.second;
-            longs[at] = l - d.long;
-        }
-        a = d.name;
-        l = d.long;
+        a = d.first.name;
+        l = d.first.long;
     }
     total
 }
@@ -239,8 +253,7 @@ fn count_first(
         → result ≡ capped (row_count t) }
 {
     if l == 0 {
-        let at = wide(a);
-        return z[at];
+        return z[a as usize];
     }
     walk(words, hs, s, g, z, a, i, l)
 }
@@ -262,92 +275,84 @@ fn under(
     ensures { (u : Tree) → Parted (rules_of g) (spelled s) st i l u
         → result ≡ capped (row_count u) }
 {
-    let kind = st.kind;
-    let first = st.first;
-    if kind < 2 {
-        return 1;
+    match st.kind {
+        Kind::Unary(b) => add(1, count_first(words, hs, s, g, z, b, i, l)),
+        Kind::Binary(b, e, split) => {
+            let x = count_first(words, hs, s, g, z, b, i, split);
+            let y = count_first(words, hs, s, g, z, e, i + split, l - split);
+            add(1, add(x, y))
+        }
+        Kind::Empty | Kind::Atom | Kind::Closed => 1,
     }
-    if kind == 2 {
-        let x = count_first(words, hs, s, g, z, first, i, l);
-        return add(1, x);
-    }
-    let split = st.split;
-    let second = st.second;
-    let x = count_first(words, hs, s, g, z, first, i, split);
-    let y = count_first(words, hs, s, g, z, second, i + split, l - split);
-    add(1, add(x, y))
+}
+
+// A nonterminal over the span of `long` tokens from `start` on.
+#[derive(Clone, Copy)]
+pub struct Part {
+    pub name: u8,
+    pub start: u8,
+    pub long: u8,
 }
 
 // Where the second tree goes on below a node that has one choice only, and the child beside it,
 // where there is one.
 #[derive(Clone, Copy)]
 pub struct Way {
-    pub name: u8,
-    pub start: u8,
-    pub long: u8,
-    pub alone: bool,
-    pub other: u8,
-    pub from: u8,
-    pub rest: u8,
+    pub on: Part,
+    pub beside: Option<Part>,
 }
 
 // It goes on in the first child that has two trees.
-fn onward(words: &[u64], n: usize, st: Step, i: u8, l: u8) -> Way
-    requires { Onto words.now n st.kind st.first st.split i l }
-    ensures { Onward (In (second_word words.now n i st.split) st.first)
-        st.kind st.first st.second st.split i l result }
+fn onward(words: &[u64], n: usize, kind: Kind, i: u8, l: u8) -> Way
+    requires { Onto words.now n kind i l }
+    ensures { Onward words.now n kind i l result }
 {
-    let first = st.first;
-    let second = st.second;
-    let k = st.split;
-    if st.kind < 3 {
-        return Way {
-            name: first,
-            start: i,
-            long: l,
-            alone: true,
-            other: 0,
-            from: 0,
-            rest: 0,
-        };
-    }
-    if in_second(words, n, wide(i), wide(k), first) {
-        return Way {
-            name: first,
-            start: i,
-            long: k,
-            alone: false,
-            other: second,
-            from: i + k,
-            rest: l - k,
-        };
-    }
-    Way {
-        name: second,
-        start: i + k,
-        long: l - k,
-        alone: false,
-        other: first,
-        from: i,
-        rest: k,
+    match kind {
+        Kind::Unary(b) => Way {
+            on: Part {
+                name: b,
+                start: i,
+                long: l,
+            },
+            beside: None,
+        },
+        Kind::Binary(b, e, split) => {
+            let left = Part {
+                name: b,
+                start: i,
+                long: split,
+            };
+            let right = Part {
+                name: e,
+                start: i + split,
+                long: l - split,
+            };
+            if in_second(words, n, i as usize, split as usize, b) {
+                return Way {
+                    on: left,
+                    beside: Some(right),
+                };
+            }
+            Way {
+                on: right,
+                beside: Some(left),
+            }
+        }
+        Kind::Empty | Kind::Atom | Kind::Closed => unreachable!(),
     }
 }
 
 // The rows of such a node and of the first tree beside the way.
-fn beside(words: &[u64], hs: &[u16], s: Sentence, g: Grammar, z: &[u64], d: Way) -> u64
+fn beside(words: &[u64], hs: &[u16], s: Sentence, g: Grammar, z: &[u64], other: Option<Part>) -> u64
     requires ready { Ready g s words.now hs.now }
     requires nulls { Nulls (rules_of g) z.now }
-    requires beside_there { BesideThere (rules_of g) (spelled s) d }
-    ensures { Beside (rules_of g) (spelled s) d result }
+    requires beside_there { BesideThere (rules_of g) (spelled s) other }
+    ensures { Beside (rules_of g) (spelled s) other result }
 {
-    let other = d.other;
-    let from = d.from;
-    let rest = d.rest;
-    if d.alone {
-        return 1;
+    match other {
+        Some(p) => add(1, count_first(words, hs, s, g, z, p.name, p.start, p.long)),
+        None => 1,
     }
-    let x = count_first(words, hs, s, g, z, other, from, rest);
-    add(1, x)
 }
 
 // The rows of the second tree: one way down to the node where it parts from the first.
@@ -363,43 +368,34 @@ fn walk_second(words: &[u64], hs: &[u16], s: Sentence, g: Grammar, z: &[u64]) ->
     let mut i: u8 = 0;
     let mut l = n as u8;
     let mut total = 0;
+    // Kept: a turn goes one node down, until the trees part.
     while total < LIMIT {
         let st = choose(words, hs, s, g, a, i, l, true);
         if !st.seeking {
             return add(total, under(words, hs, s, g, z, st, i, l));
         }
-        let d = onward(words, n, st, i, l);
-        total = add(total, beside(words, hs, s, g, z, d));
-        a = d.name;
-        i = d.start;
-        l = d.long;
+        let d = onward(words, n, st.kind, i, l);
+        total = add(total, beside(words, hs, s, g, z, d.beside));
+        a = d.on.name;
+        i = d.on.start;
+        l = d.on.long;
     }
     total
 }
 
-// How many rows a tree has, up to 4,294,967,295, or that it has more.
-#[derive(Clone, Copy)]
-pub enum RowCount {
-    Exact(u32),
-    More,
-}
-
-// The row counts of both trees.
+// How many rows each tree has, up to 4,294,967,295; none where it has more.
 #[derive(Clone, Copy)]
 pub struct RowCounts {
-    pub first: RowCount,
-    pub second: RowCount,
+    pub first: Option<u32>,
+    pub second: Option<u32>,
 }
 
 // A capped count as an answer.
-fn exact_or_more(n: u64) -> RowCount
+fn told(n: u64) -> Option<u32>
     requires { n ≤ 4294967296 }
     ensures { (c : ℕ) → n ≡ capped c → Tells result c }
 {
-    if n < LIMIT {
-        return RowCount::Exact(n as u32);
-    }
-    RowCount::More
+    if n < LIMIT { Some(n as u32) } else { None }
 }
 
 // The rows of the second tree, where there are two; else none.
@@ -427,8 +423,8 @@ fn count_by(words: &[u64], hs: &[u16], s: Sentence, g: Grammar, two: bool) -> Ro
     null_counts(&mut z, words, hs, s, g);
     let a = count_first(words, hs, s, g, &z, 0, 0, n as u8);
     let b = count_second(words, hs, s, g, &z, two);
-    let first = exact_or_more(a);
-    let second = exact_or_more(b);
+    let first = told(a);
+    let second = told(b);
     RowCounts { first, second }
 }
 

@@ -1,10 +1,10 @@
 -- The search for the earliest choice of the least height, by the least heights of all spans.
-use mathlib.Core.Path.{◌≡◌, refl, sym, ap, ap₂, ◌∙◌, subst}
+use mathlib.Core.Path.{◌≡◌, refl, sym, ap, ◌∙◌, subst}
 use mathlib.Core.Bool.{Bool, false}
 use mathlib.Core.List.{List}
 use mathlib.Core.Logic.{◌⊎◌, inl, inr, ⊎_elim}
 use mathlib.Core.Option.{some}
-use Prim.Native.Nat.{ℕ, zero, suc, ◌+◌, ◌-◌, ◌*◌, ◌≤◌, ◌<◌, max}
+use Prim.Native.Nat.{ℕ, suc, ◌+◌, ◌-◌, ◌*◌, ◌≤◌, ◌<◌}
 use native.Mathlib.Omega.{arith}
 use native.Mathlib.Decide.{ℕ_discrete, dec_lt}
 use lib.ListN.{length, get_elem?}
@@ -22,17 +22,16 @@ use Rattle.grammar.proofs.ChoiceLaws.{takes_of, member_at}
 use Rattle.marks.proofs.Words.{cut}
 use Rattle.choices.specs.Choosing.{NextAt, NoneFrom}
 use Rattle.rows.specs.declared.Step.{Step}
-use Rattle.rows.specs.Steps.{step_of_clause}
+use Rattle.rows.specs.Steps.{clause_kind, step_of_clause, KidsSmall, LeftWithin}
 use Rattle.heights.specs.Least.{LeastHeight, number_at, HeightSheet}
 use Rattle.tree_choices.specs.Picks.{HasChoice}
 use Rattle.tree_choices.specs.Lows.{height_by}
-use Rattle.tree_choices.proofs.Pending.{node_shape, shape_of}
+use Rattle.tree_choices.proofs.Pending.{kind_at, node_shape, shape_of}
 use Rattle.tree_choices.proofs.PickLaws.{choice_within}
 
 -- how high the top of t stands over children as low as can be
 abbrev pub high_of : List ℕ → ℕ → Tree → ℕ → ℕ → ℕ
-high_of hs n t s len = height_by hs n (node_shape false t).kind (node_shape false t).first
-    (node_shape false t).second (node_shape false t).split s len
+high_of hs n t s len = height_by hs n (kind_at t) s len
 
 -- the choices before (p, k) are higher than the least height
 pub record Higher (g : Rules) (w : Word) (hs : List ℕ) (A s len p k : ℕ) : Type 0 where
@@ -109,23 +108,13 @@ module _ {g : Rules} {w : Word} {hs : List ℕ} (sheet : HeightSheet g w hs) whe
     -- what the rule at its place says of a choice's tree
     pub high_by : (q l : ℕ) (c : Choice g A (part w s len) q l) (r : Rule) → get_elem? g q ≡ some r
         → (m : Bool) (st : Step) → st ≡ step_of_clause r.clause l m
-        → height_by hs (length w) st.kind st.first st.second st.split s len
-        ≡ high_of hs (length w) c.tree s len
+        → height_by hs (length w) st.kind s len ≡ high_of hs (length w) c.tree s len
     high_by q l c r e m st h =
         let x = c.takes.stands in
         let y : r ≡ c.takes.rule = cc in
         let z : st ≡ node_shape m c.tree = h ∙ ap (λ (v : Rule). step_of_clause v.clause l m) y
         ∙ shape_of c.tree c.takes.rule l m c.takes.top in
-        ap (λ (v : Step). height_by hs (length w) v.kind v.first v.second v.split s len)
-        z ∙ same m c.tree
-      where
-        same : (m : Bool) (t : Tree) → height_by hs (length w) (node_shape m t).kind
-            (node_shape m t).first (node_shape m t).second (node_shape m t).split s len
-            ≡ high_of hs (length w) t s len
-        same m (empty A) = refl
-        same m (leaf A t) = refl
-        same m (unary A t) = refl
-        same m (binary A u v) = refl
+        ap (λ (v : Step). height_by hs (length w) v.kind s len) z
 
     -- two trees of one choice stand equally high
     high_same : (q l : ℕ) (c d : Choice g A (part w s len) q l)
@@ -242,12 +231,12 @@ module _ {g : Rules} {w : Word} {hs : List ℕ} (sheet : HeightSheet g w hs) whe
     pub low_step : (n : ℕ) → length w ≡ n → (p k q l : ℕ) → Higher g w hs A s len p k
         → (x : NextAt g A (part w s len) p k q l) (st : Step)
         → st ≡ step_of_clause x.choice.takes.rule.clause l false → (h m : ℕ)
-        → h ≡ height_by hs n st.kind st.first st.second st.split s len
+        → h ≡ height_by hs n st.kind s len
         → m ≡ number_at hs n s len A → (h ≤ m → LowChoice g A (part w s len) q l)
         × ((h ≤ m → ⊥) → Higher g w hs A s len q (l + 1))
     low_step n e p k q l y x st z h m u v =
         let u' : h ≡ high_of hs (length w) x.choice.tree s len =
-        subst (λ (j : ℕ). h ≡ height_by hs j st.kind st.first st.second st.split s len)
+        subst (λ (j : ℕ). h ≡ height_by hs j st.kind s len)
         (sym e) u
         ∙ high_by q l x.choice x.choice.takes.rule x.choice.takes.stands false st z in
         let v' : m ≡ number_at hs (length w) s len A =
@@ -255,48 +244,22 @@ module _ {g : Rules} {w : Word} {hs : List ℕ} (sheet : HeightSheet g w hs) whe
         (λ a. low_found p k q l y x (omega arith), λ a. higher_next p k q l y x (omega arith))
 
 -- the children that a choice's step names are in reach
-step_small : (c : Clause) (k : ℕ) (m : Bool) → SmallClause c
-    → ((step_of_clause c k m).first < 64) × ((step_of_clause c k m).second < 64)
-    × ((step_of_clause c k m).split ≤ k)
-step_small Clause.Empty k m s = (omega arith, omega arith, omega arith)
-step_small (Clause.Atom a b) k m s = (omega arith, omega arith, omega arith)
-step_small (Clause.Unary B u) k m s = (s, omega arith, omega arith)
-step_small (Clause.Binary B C u) k m s = (s.0, s.1, omega arith)
+kind_small : (c : Clause) (k n : ℕ) → SmallClause c → k ≤ n
+    → KidsSmall (clause_kind c k) × LeftWithin (clause_kind c k) n
+kind_small Clause.Empty k n s h = (tt, tt)
+kind_small (Clause.Atom a b) k n s h = (tt, tt)
+kind_small (Clause.Unary B u) k n s h = (s, tt)
+kind_small (Clause.Binary B C u) k n s h = (s, h)
 
 pub step_inside : {g : Grammar} → Formed g
     → (w : Word) (A i n q l : ℕ) (c : Choice (rules_of g) A (part w i n) q l) (st : Step)
     → st ≡ step_of_clause c.takes.rule.clause l false
-    → (st.first < 64) × (st.second < 64) × (st.split ≤ n)
+    → KidsSmall st.kind × LeftWithin st.kind n
 step_inside {g} f w A i n q l c st e =
     let r = mem_every SmallRule (rules_of g) f.small (member_at (rules_of g) q c.takes.stands) in
-    let x = step_small c.takes.rule.clause l false r.clause in
-    let y = choice_within f w A i n q l c in (
-      omega (arith, x.0, ap (λ (z : Step). z.first) e),
-      omega
-          (arith, x.1, ap (λ (z : Step). z.second) e),
-      omega
-          (arith, x.2, y.1, ap (λ (z : Step). z.split) e),
-    )
-
--- the height that the code finds
-module _ (hs : List ℕ) (n B C s len : ℕ) where
-  pub by_low : (kind k : ℕ) → kind < 2 → 1 ≡ height_by hs n kind B C k s len
-  by_low zero k h = refl
-  by_low (suc zero) k h = refl
-  by_low (suc (suc j)) k h = absurd (omega arith)
-
-  pub by_one : (kind k x : ℕ) → kind ≡ 2 → x ≡ number_at hs n s len B
-      → 1 + x ≡ height_by hs n kind B C k s len
-  by_one kind k x e f = (let q : 1 + x ≡ suc x = omega arith in q) ∙ ap suc f
-      ∙ ap (λ (j : ℕ). height_by hs n j B C k s len) (sym e)
-
-  pub by_two : (kind k x y r : ℕ) → (kind < 2 → ⊥) → (kind ≡ 2 → ⊥) → x ≡ number_at hs n s k B
-      → y ≡ number_at hs n (s + k) (len - k) C → r ≡ suc (max x y)
-      → r ≡ height_by hs n kind B C k s len
-  by_two zero k x y r h e f g d = absurd (h (omega arith))
-  by_two (suc zero) k x y r h e f g d = absurd (h (omega arith))
-  by_two (suc (suc zero)) k x y r h e f g d = absurd (e refl)
-  by_two (suc (suc (suc j))) k x y r h e f g d = d ∙ ap₂ (λ (a b : ℕ). suc (max a b)) f g
+    let y = choice_within f w A i n q l c in
+    subst (λ (z : Step). KidsSmall z.kind × LeftWithin z.kind n) (sym e)
+    (kind_small c.takes.rule.clause l n r.clause y.1)
 
 -- the search goes on
 pub rank : ℕ → ℕ → ℕ

@@ -17,8 +17,9 @@ use Rattle.grammar.specs.SpanSheet.{part}
 use Rattle.grammar.proofs.ChoiceLaws.{takes_unique, other_same, not_only, top_of, beneath_of}
 use Rattle.grammar.proofs.ChoiceLaws.{second_rooted, second_spelled, keep_unary, keep_binary}
 use Rattle.grammar.proofs.ChoiceLaws.{two_trees, two_not_only, preferred_choice, preferred_same}
+use Rattle.rows.specs.declared.Kind.{Kind}
 use Rattle.rows.specs.declared.Step.{Step}
-use Rattle.rows.specs.Steps.{step_of_clause, closed_step}
+use Rattle.rows.specs.Steps.{step_of_clause}
 use Rattle.tree_choices.specs.Picks.{Picks, Passes}
 use Rattle.grammar.specs.Distinct.{Distinct}
 
@@ -47,20 +48,26 @@ kids (unary A t) i = record { tree = t; start = i } ∷ []
 kids (binary A s t) i =
     record { tree = s; start = i } ∷ record { tree = t; start = i + length (word s) } ∷ []
 
+-- the kind of a tree's top
+abbrev pub kind_at : Tree → Kind
+kind_at (empty A) = Kind.Empty
+kind_at (leaf A t) = Kind.Atom
+kind_at (unary A t) = Kind.Unary (root t)
+kind_at (binary A s t) = Kind.Binary (root s) (root t) (length (word s))
+
 -- what the writer has to know of a node
 abbrev pub node_shape : Bool → Tree → Step
-node_shape m (empty A) = record { kind = 0; first = 0; second = 0; split = 0; seeking = m }
-node_shape m (leaf A t) = record { kind = 1; first = 0; second = 0; split = 0; seeking = m }
-node_shape m (unary A t) = record { kind = 2; first = root t; second = 0; split = 0; seeking = m }
-node_shape m (binary A s t) =
-    record { kind = 3; first = root s; second = root t; split = length (word s); seeking = m }
+node_shape m t = record { kind = kind_at t; seeking = m }
 
 -- the same of a node as it is shown
 abbrev pub shown_kids : View → Tree → ℕ → List Pending
 shown_kids sees t i = cond (sees (root t)) (kids t i) []
 
+abbrev pub shown_kind : View → Tree → Kind
+shown_kind sees t = cond (sees (root t)) (kind_at t) Kind.Closed
+
 abbrev pub shown_shape : View → Bool → Tree → Step
-shown_shape sees m t = cond (sees (root t)) (node_shape m t) (closed_step m)
+shown_shape sees m t = record { kind = shown_kind sees t; seeking = m }
 
 pub shape_of : (t : Tree) (r : Rule) (k : ℕ) (m : Bool) → Top r k t
     → step_of_clause r.clause k m ≡ node_shape m t

@@ -1,6 +1,7 @@
 -- Laws of the search for a choice and of what is picked.
 use mathlib.Core.Path.{◌≡◌, refl, sym, ap, ◌∙◌}
-use mathlib.Core.Bool.{Bool, true, false}
+use mathlib.Core.Bool.{Bool, true, false, not, ◌&&◌}
+use Rattle.std.specs.Prelude.{◌==◌}
 use mathlib.Core.List.{List}
 use mathlib.Core.Logic.{◌⊎◌, inl, inr, ⊎_elim}
 use mathlib.Core.Option.{some}
@@ -9,7 +10,6 @@ use native.Mathlib.Omega.{arith}
 use native.Mathlib.Decide.{ℕ_discrete}
 use lib.ListN.{length, get_elem?, length-take, drop}
 use Rattle.grammar.specs.declared.Rule.{Rule}
-use Rattle.grammar.specs.declared.Clause.{Clause}
 use Rattle.grammar.specs.declared.Grammar.{Grammar}
 use Rattle.grammar.specs.declared.Sentence.{Sentence}
 use Rattle.grammar.specs.Layout.{Word}
@@ -23,7 +23,9 @@ use Rattle.sets.specs.Sets.{In}
 use Rattle.spans.specs.Reach.{Reach}
 use Rattle.grammar.proofs.ChoiceLaws.{tri, member_at}
 use Rattle.grammar.proofs.ByKind.{inside, choice_can}
-use Rattle.choices.specs.Choosing.{NextAt, NoneFrom}
+use Rattle.std.specs.Prelude.{Option, Some, None, IsSome}
+use Rattle.choices.specs.declared.Pick.{Pick}
+use Rattle.choices.specs.Choosing.{NextAt, NoneFrom, NextChoice}
 use Rattle.rows.specs.declared.Step.{Step}
 use Rattle.rows.specs.Steps.{step_of_clause}
 use Rattle.tree_choices.specs.Wanted.{Charted, Ready}
@@ -42,6 +44,25 @@ pub choice_near : {g : Grammar} {s : Sentence} {ws : List ℕ} → Charted g s w
 choice_near {g} {s} r A i n q l h c =
     let x = choice_within r.formed (spelled s) A i n q l c in
     (omega (arith, x.0, r.formed.few), omega (arith, x.1, r.positioned.few))
+
+-- ---- what the search finds
+
+module _ (g : Rules) (A : ℕ) (w : Word) (p k : ℕ) where
+  -- it finds a choice where there is one
+  pub next_some : (o : Option Pick) → NextChoice g A w p k o → (NoneFrom g A w p k → ⊥) → IsSome o
+  next_some None x h = absurd (h x)
+  next_some (Some y) x h = refl
+
+  pub next_at : (o : Option Pick) (x : Pick) → NextChoice g A w p k o → o ≡ Some x
+      → NextAt g A w p k x.rule x.left
+  next_at o x n e = rw e at n
+
+-- whether two choices are the same, as the derived comparison tells it
+pub differ : (p k q l : ℕ) → not ((p == q) && (k == l)) ≡ true → Same p k q l → ⊥
+differ p k q l h e = grind arith
+
+pub agree : (p k q l : ℕ) → not ((p == q) && (k == l)) ≡ false → Same p k q l
+agree p k q l h = grind arith
 
 nothing_before : (q l : ℕ) → ChoiceBefore q l 0 0 → ⊥
 nothing_before q l b = ⊎_elim (λ x. omega arith) (λ x. omega arith) b
@@ -110,7 +131,7 @@ pub chosen : (g : Grammar) {A : ℕ} {w : Word} {s : Bool} {p k : ℕ} (m : Bool
     → PickedStep (rules_of g) A w s st
 chosen g {A} {w} {s} {p} {k} m {st} c h f =
     let e = f c.takes.rule (get_elem?_take g.rules g.count p c.takes.stands) in
-    let j : st.seeking ≡ m = ap (λ (x : Step). x.seeking) e ∙ same c.takes.rule.clause in
+    let j : st.seeking ≡ m = ap (λ (x : Step). x.seeking) e in
     record {
       place = p;
       split = k;
@@ -119,12 +140,6 @@ chosen g {A} {w} {s} {p} {k} m {st} c h f =
       step = e ∙ ap (λ (x : Bool). step_of_clause c.takes.rule.clause k x) (sym j);
       picks = rw j h;
     }
-  where
-    same : (x : Clause) → (step_of_clause x k m).seeking ≡ m
-    same Clause.Empty = refl
-    same (Clause.Atom a b) = refl
-    same (Clause.Unary B n) = refl
-    same (Clause.Binary B C n) = refl
 
 -- a nonterminal that has a choice is below 64
 pub choice_small : {g : Grammar} → Formed g → {A : ℕ} {w : Word} → HasChoice (rules_of g) A w

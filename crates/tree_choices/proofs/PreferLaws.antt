@@ -8,29 +8,13 @@ use native.Mathlib.Omega.{arith}
 use lib.ListN.{length}
 use Rattle.grammar.specs.Layout.{Word}
 use Rattle.grammar.specs.Trees.{Rules}
-use Rattle.grammar.specs.Choices.{straight, looping}
 use Rattle.grammar.specs.declared.Grammar.{Grammar}
 use Rattle.grammar.specs.declared.Sentence.{Sentence}
 use Rattle.grammar.specs.Content.{rules_of}
 use Rattle.grammar.specs.Cycles.{Cyclic}
 use Rattle.heights.specs.Least.{HeightSheet}
-use Rattle.choices.specs.declared.Pick.{Pick}
-use Rattle.choices.specs.Choosing.{NextChoice}
 use Rattle.tree_choices.specs.Wanted.{Charted, Ready, Wanted}
-use Rattle.tree_choices.specs.Picks.{HasChoice}
-use Rattle.tree_choices.specs.Lows.{LowPick, PreferredPick}
-use Rattle.tree_choices.proofs.PickLaws.{first_of_next, none_of_none}
 use Rattle.grammar.specs.Sentences.{spelled}
-
-pub first_pick : {g : Rules} {A : ℕ} {w : Word} → HasChoice g A w → (Cyclic g → ⊥) → (r : Pick)
-    → NextChoice g A w 0 0 r → PreferredPick g A w r
-first_pick h c (Pick.At p k) x = straight c (first_of_next x)
-first_pick h c Pick.Nothing x = none_of_none h x
-
-pub low_pick : {g : Rules} (A : ℕ) (w : Word) → Cyclic g → (r : Pick) → LowPick g A w r
-    → PreferredPick g A w r
-low_pick A w c (Pick.At p k) x = looping c x
-low_pick A w c Pick.Nothing x = x
 
 -- a sheet with no loop needs no heights
 pub ready_flat : {g : Grammar} {s : Sentence} {ws hs : List ℕ} → Charted g s ws

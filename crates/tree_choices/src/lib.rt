@@ -2,50 +2,39 @@
 #![tactic(auto)]
 
 ghost use Rattle.std.specs.Prelude.{◌≡◌, true, false, ◌+◌, ◌-◌, ◌≤◌, ◌<◌};
-ghost use Rattle.grammar.specs.Choices.{FirstChoice, Preferred};
+ghost use Rattle.grammar.specs.Choices.{FirstChoice, LowChoice, Preferred};
 ghost use Rattle.grammar.specs.Content.{rules_of};
 ghost use Rattle.grammar.specs.SpanSheet.{part};
 ghost use Rattle.tree_choices.specs.Wanted.{Charted, Ready};
-ghost use Rattle.tree_choices.specs.Lows.{height_by, Inside, LowPick, PreferredPick};
+ghost use Rattle.tree_choices.specs.Lows.{height_by, Inside};
 ghost use Rattle.tree_choices.specs.Picks.{HasChoice, PickedStep, Passes, Looked};
 ghost use Rattle.heights.specs.Least.{HeightSheet};
 ghost use Rattle.rows.specs.Steps.{closed_step};
 ghost use Rattle.grammar.specs.Sentences.{spelled};
 ghost use Rattle.tree_view.specs.Members.{member};
 
-use choices::{Pick, next_choice};
+use choices::{FIRST, Pick, next_choice};
 use grammar::{Grammar, Sentence};
 use heights::high;
-use rows::{Step, step_of};
+use rows::{Kind, Step, step_of};
 use sets::{has, wide};
 use spans::in_second;
 
-fn full(x: u16) -> usize
-    ensures { (result ≡ x) × (result < 65536) }
+// How high a tree stands whose top is of this kind and whose children are as low as can be.
+fn height_of(hs: &[u16], n: usize, kind: Kind, start: usize, len: usize) -> usize
+    requires { Inside hs.now n kind start len }
+    ensures { result ≡ height_by hs.now n kind start len }
 {
-    x as usize
-}
-
-// How high a tree stands whose top is the choice with this step and whose children are as low as
-// can be.
-fn height_of(hs: &[u16], n: usize, st: Step, start: usize, len: usize) -> usize
-    requires { Inside hs.now n st start len }
-    ensures { result ≡ height_by hs.now n st.kind st.first st.second
-        st.split start len }
-{
-    let kind = st.kind;
-    let first = st.first;
-    if kind < 2 {
-        return 1;
+    match kind {
+        Kind::Unary(b) => 1 + high(hs, n, start, len, b) as usize,
+        Kind::Binary(b, e, split) => {
+            let k = wide(split);
+            let x = high(hs, n, start, k, b);
+            let y = high(hs, n, start + k, len - k, e);
+            1 + x.max(y) as usize
+        }
+        Kind::Empty | Kind::Atom | Kind::Closed => 1,
     }
-    if kind == 2 {
-        return 1 + full(high(hs, n, start, len, first));
-    }
-    let second = st.second;
-    let k = wide(st.split);
-    let x = full(high(hs, n, start, k, first));
-    let y = full(high(hs, n, start + k, len - k, second));
-    if x < y { 1 + y } else { 1 + x }
 }
 
 // On a looping sheet: the earliest choice of `a` at the span that gives the least height.
@@ -61,28 +50,21 @@ fn low_choice(
     requires ready { Ready g s words.now hs.now × (start + len ≤ s.count) × (a < 64) }
     requires height_sheet { HeightSheet (rules_of g) (spelled s) hs.now }
     requires has_choice { HasChoice (rules_of g) a (part (spelled s) start len) }
-    ensures { LowPick (rules_of g) a (part (spelled s) start len) result }
+    ensures { LowChoice (rules_of g) a (part (spelled s) start len) result.rule result.left }
 {
     let n = s.count;
-    let least = full(high(hs, n, start, len, a));
-    let mut p = 0;
-    let mut k = 0;
-    loop {
-        let found = next_choice(words, s, g, a, start, len, p, k);
-        match found {
-            Pick::At(q, l) => {
-                let st = step_of(g, q, l, false);
-                let h = height_of(hs, n, st, start, len);
-                if h <= least {
-                    return Pick::At(q, l);
-                }
-                p = q;
-                k = l + 1;
-            }
-            Pick::Nothing => {
-                return Pick::Nothing;
-            }
+    let least = high(hs, n, start, len, a) as usize;
+    let mut from = FIRST;
+    'search: loop {
+        let found = next_choice(words, s, g, a, start, len, from).unwrap();
+        let st = step_of(g, found.rule, found.left, false);
+        if height_of(hs, n, st.kind, start, len) <= least {
+            return found;
         }
+        from = Pick {
+            rule: found.rule,
+            left: found.left + 1,
+        };
     }
 }
 
@@ -98,15 +80,15 @@ fn preferred(
 ) -> Pick
     requires ready { Ready g s words.now hs.now × (start + len ≤ s.count) }
     requires has_choice { HasChoice (rules_of g) a (part (spelled s) start len) }
-    ensures { PreferredPick (rules_of g) a (part (spelled s) start len) result }
+    ensures { Preferred (rules_of g) a (part (spelled s) start len) result.rule result.left }
 {
-    if hs.len() == 0 {
-        return next_choice(words, s, g, a, start, len, 0, 0);
+    if hs.is_empty() {
+        return next_choice(words, s, g, a, start, len, FIRST).unwrap();
     }
     low_choice(words, hs, s, g, a, start, len)
 }
 
-// While seeking, at a node whose first choice of all is (p, k), which the first tree takes: the
+// While seeking, at a node whose first choice of all is `taken`, which the first tree takes: the
 // second, where there is one, and the seeking ends.
 fn after(
     words: &[u64],
@@ -115,22 +97,26 @@ fn after(
     a: u8,
     start: usize,
     len: usize,
-    p: usize,
-    k: usize,
+    taken: Pick,
 ) -> Step
     requires charted { Charted g s words.now × (start + len ≤ s.count) }
-    requires first_choice { FirstChoice (rules_of g) a (part (spelled s) start len) p k }
-    requires preferred { Preferred (rules_of g) a (part (spelled s) start len) p k }
+    requires first_choice { FirstChoice (rules_of g) a (part (spelled s) start len)
+        taken.rule taken.left }
+    requires preferred { Preferred (rules_of g) a (part (spelled s) start len)
+        taken.rule taken.left }
     ensures { PickedStep (rules_of g) a (part (spelled s) start len) true result }
 {
-    let other = next_choice(words, s, g, a, start, len, p, k + 1);
-    match other {
-        Pick::At(q, l) => step_of(g, q, l, false),
-        Pick::Nothing => step_of(g, p, k, true),
+    let from = Pick {
+        rule: taken.rule,
+        left: taken.left + 1,
+    };
+    match next_choice(words, s, g, a, start, len, from) {
+        Some(other) => step_of(g, other.rule, other.left, false),
+        None => step_of(g, taken.rule, taken.left, true),
     }
 }
 
-// While seeking, at a node where the first tree takes (p, k): the earliest choice that is another,
+// While seeking, at a node where the first tree takes `taken`: the earliest choice that is another,
 // where there is one.
 fn other_choice(
     words: &[u64],
@@ -139,26 +125,18 @@ fn other_choice(
     a: u8,
     start: usize,
     len: usize,
-    p: usize,
-    k: usize,
+    taken: Pick,
 ) -> Step
     requires charted { Charted g s words.now × (start + len ≤ s.count) }
-    requires preferred { Preferred (rules_of g) a (part (spelled s) start len) p k }
+    requires preferred { Preferred (rules_of g) a (part (spelled s) start len)
+        taken.rule taken.left }
     ensures { PickedStep (rules_of g) a (part (spelled s) start len) true result }
 {
-    let found = next_choice(words, s, g, a, start, len, 0, 0);
-    match found {
-        Pick::At(q, l) => {
-            if q != p {
-                return step_of(g, q, l, false);
-            }
-            if l != k {
-                return step_of(g, q, l, false);
-            }
-            after(words, s, g, a, start, len, p, k)
-        }
-        Pick::Nothing => step_of(g, p, k, true),
+    let first = next_choice(words, s, g, a, start, len, FIRST).unwrap();
+    if first != taken {
+        return step_of(g, first.rule, first.left, false);
     }
+    after(words, s, g, a, start, len, taken)
 }
 
 // What is taken at a node: what the first tree takes; while seeking, another choice where there is
@@ -179,16 +157,11 @@ pub fn choose(
 {
     let start = wide(i);
     let len = wide(n);
-    let found = preferred(words, hs, s, g, a, start, len);
-    match found {
-        Pick::At(p, k) => {
-            if seeking {
-                return other_choice(words, s, g, a, start, len, p, k);
-            }
-            step_of(g, p, k, false)
-        }
-        Pick::Nothing => step_of(g, 0, 0, false),
+    let taken = preferred(words, hs, s, g, a, start, len);
+    if seeking {
+        return other_choice(words, s, g, a, start, len, taken);
     }
+    step_of(g, taken.rule, taken.left, false)
 }
 
 // The step of a closed node: nothing beneath it is written. Seeking ends there where the
@@ -200,16 +173,11 @@ fn pass(words: &[u64], s: Sentence, g: Grammar, a: u8, i: u8, n: u8, seeking: bo
         seeking result.seeking }
 {
     let mut more = seeking;
-    if seeking {
-        if in_second(words, s.count, wide(i), wide(n), a) {
-            more = false;
-        }
+    if seeking && in_second(words, s.count, wide(i), wide(n), a) {
+        more = false;
     }
     Step {
-        kind: 4,
-        first: 0,
-        second: 0,
-        split: 0,
+        kind: Kind::Closed,
         seeking: more,
     }
 }

@@ -4,6 +4,7 @@ use mathlib.Core.Path.{◌≡◌, refl, sym, ap, ◌∙◌, subst}
 use mathlib.Core.Bool.{Bool, true, false, cond}
 use mathlib.Core.List.{List, [], ◌∷◌, ◌++◌, append_assoc, append-nil}
 use mathlib.Core.Option.{none}
+use Rattle.std.specs.Prelude.{Some, None}
 use Prim.Native.Nat.{ℕ, ◌+◌, ◌*◌, ◌-◌, ◌≤◌, ◌<◌}
 use native.Mathlib.Omega.{arith}
 use lib.ListN.{length, get_or, take, drop, replicate, length-append, length-take, length-drop}
@@ -20,10 +21,11 @@ use Rattle.tree_writer.specs.Written.{row_room, seen_by, filled}
 use Rattle.tree_choices.specs.Wanted.{Goal}
 use Rattle.tree_writer.specs.RowsWritten.{RowsWritten}
 use Rattle.rows.specs.Bytes.{splice}
-use Rattle.rows.specs.Steps.{kids_of_of, entries_of, closed_step, Branched}
+use Rattle.rows.specs.declared.Kind.{Kind}
+use Rattle.rows.specs.Steps.{kind_byte, kids_of, entries_of, Branched}
 use Rattle.rows.proofs.BytesLaws.{length_splice, take_splice, drop_splice, drop_splice_high}
-use Rattle.tree_choices.proofs.Pending.{Pending, entries, rows_all, kids, node_shape, shown_kids}
-use Rattle.tree_choices.proofs.Pending.{shown_shape, Sits, Fork, Aim}
+use Rattle.tree_choices.proofs.Pending.{Pending, entries, rows_all, kids, kind_at, shown_kids}
+use Rattle.tree_choices.proofs.Pending.{shown_kind, shown_shape, Sits, Fork, Aim}
 use Rattle.grammar.specs.Distinct.{Distinct}
 
 -- 1. the rows shown of a tree: its own, then those of its children
@@ -31,21 +33,21 @@ use Rattle.grammar.specs.Distinct.{Distinct}
 module _ (sees : View) where
   abbrev pub row : Tree → ℕ → List ℕ
   row t i =
-      root t ∷ (shown_shape sees false t).kind ∷ start_of i (length (word t)) ∷ length (word t) ∷ []
+      root t ∷ kind_byte (shown_kind sees t) ∷ start_of i (length (word t)) ∷ length (word t) ∷ []
 
   pub rows_split : (t : Tree) (i : ℕ)
       → shown_rows sees i t ≡ row t i ++ rows_all sees (shown_kids sees t i)
   rows_split (empty A) i = go (sees A)
     where
       go : (b : Bool) → cond b (A ∷ 0 ∷ 0 ∷ 0 ∷ []) (closed_row i (empty A))
-          ≡ (A ∷ (cond b (node_shape false (empty A)) (closed_step false)).kind ∷ 0 ∷ 0 ∷ [])
+          ≡ (A ∷ kind_byte (cond b (kind_at (empty A)) Kind.Closed) ∷ 0 ∷ 0 ∷ [])
           ++ rows_all sees (cond b [] [])
       go true = refl
       go false = refl
   rows_split (leaf A t) i = go (sees A)
     where
       go : (b : Bool) → cond b (A ∷ 1 ∷ i ∷ 1 ∷ []) (closed_row i (leaf A t))
-          ≡ (A ∷ (cond b (node_shape false (leaf A t)) (closed_step false)).kind ∷ i ∷ 1 ∷ [])
+          ≡ (A ∷ kind_byte (cond b (kind_at (leaf A t)) Kind.Closed) ∷ i ∷ 1 ∷ [])
           ++ rows_all sees (cond b [] [])
       go true = refl
       go false = refl
@@ -53,7 +55,7 @@ module _ (sees : View) where
     where
       go : (b : Bool) → cond b (A ∷ 2 ∷ start_of i (length (word t)) ∷ length (word t)
           ∷ shown_rows sees i t) (closed_row i (unary A t))
-          ≡ (A ∷ (cond b (node_shape false (unary A t)) (closed_step false)).kind
+          ≡ (A ∷ kind_byte (cond b (kind_at (unary A t)) Kind.Closed)
           ∷ start_of i (length (word t)) ∷ length (word t) ∷ [])
           ++ rows_all sees (cond b (kids (unary A t) i) [])
       go true = rw append-nil refl
@@ -63,36 +65,29 @@ module _ (sees : View) where
       go : (b : Bool)
           → cond b (A ∷ 3 ∷ start_of i (length (word s ++ word t)) ∷ length (word s ++ word t)
           ∷ (shown_rows sees i s ++ shown_rows sees (i + length (word s)) t))
-          (closed_row i (binary A s t)) ≡ (A ∷ (cond b (node_shape false (binary A s t))
-          (closed_step false)).kind ∷ start_of i (length (word s ++ word t))
+          (closed_row i (binary A s t)) ≡ (A ∷ kind_byte (cond b (kind_at (binary A s t))
+          Kind.Closed) ∷ start_of i (length (word s ++ word t))
           ∷ length (word s ++ word t) ∷ [])
           ++ rows_all sees (cond b (kids (binary A s t) i) [])
       go true = rw (append-nil (shown_rows sees (i + length (word s)) t)) refl
       go false = refl
 
-  pub kids_count : (t : Tree) (i : ℕ) (m : Bool)
-      → length (shown_kids sees t i) ≡ kids_of_of (shown_shape sees m t).kind
-  kids_count t i m = go (sees (root t)) t
+  pub kids_count : (t : Tree) (i : ℕ) → length (shown_kids sees t i) ≡ kids_of (shown_kind sees t)
+  kids_count t i = go (sees (root t)) t
     where
       go : (b : Bool) (t : Tree) → length (cond b (kids t i) [])
-          ≡ kids_of_of (cond b (node_shape m t) (closed_step m)).kind
+          ≡ kids_of (cond b (kind_at t) Kind.Closed)
       go true (empty A) = refl
       go true (leaf A t) = refl
       go true (unary A t) = refl
       go true (binary A s t) = refl
       go false t = refl
 
-  pub kids_entries : (t : Tree) (i : ℕ) (m : Bool)
-      → entries_of (shown_shape sees m t).kind (shown_shape sees m t).first
-      (shown_shape sees m t).second (shown_shape sees m t).split i (length (word t))
-      ≡ entries (shown_kids sees t i)
-  kids_entries t i m = go (sees (root t)) t
+  pub kids_entries : (t : Tree) (i : ℕ)
+      → entries_of (shown_kind sees t) i (length (word t)) ≡ entries (shown_kids sees t i)
+  kids_entries t i = go (sees (root t)) t
     where
-      go : (b : Bool) (t : Tree)
-          → entries_of (cond b (node_shape m t) (closed_step m)).kind
-          (cond b (node_shape m t) (closed_step m)).first
-          (cond b (node_shape m t) (closed_step m)).second
-          (cond b (node_shape m t) (closed_step m)).split i (length (word t))
+      go : (b : Bool) (t : Tree) → entries_of (cond b (kind_at t) Kind.Closed) i (length (word t))
           ≡ entries (cond b (kids t i) [])
       go true (empty A) = refl
       go true (leaf A t) = refl
@@ -278,44 +273,32 @@ module _ {sees : View} {g : Rules} {w : Word} {u : Tree} {s : Bool} {out : List 
   abbrev at : ℕ
   at = get_or out (4 * top + 1) 0
 
-  turn_kids : length (shown_kids sees x.tree at) ≡ kids_of_of st.kind
-  turn_kids = rw e (kids_count sees x.tree at m)
+  turn_kind : st.kind ≡ shown_kind sees x.tree
+  turn_kind = ap (λ (y : Step). y.kind) e
 
-  turn_entries : entries_of st.kind st.first st.second st.split at
-      (get_or out (4 * top + 2) 0) ≡ entries (shown_kids sees x.tree at)
-  turn_entries = rw (e, x.length_byte) (kids_entries sees x.tree at m)
+  turn_kids : length (shown_kids sees x.tree at) ≡ kids_of st.kind
+  turn_kids = rw turn_kind (kids_count sees x.tree at)
 
-  turn_row : get_or out (4 * top) 0 ∷ st.kind ∷ start_of at (get_or out (4 * top + 2) 0)
+  turn_entries : entries_of st.kind at (get_or out (4 * top + 2) 0)
+      ≡ entries (shown_kids sees x.tree at)
+  turn_entries = rw (turn_kind, x.length_byte) (kids_entries sees x.tree at)
+
+  turn_row : get_or out (4 * top) 0 ∷ kind_byte st.kind ∷ start_of at (get_or out (4 * top + 2) 0)
       ∷ get_or out (4 * top + 2) 0 ∷ [] ≡ row sees x.tree at
-  turn_row = rw (e, x.length_byte, x.left) (same_kind x.tree)
-    where
-      kind_same : (b : Bool) (t : Tree)
-          → (cond b (node_shape m t) (closed_step m)).kind ≡ (cond b (node_shape false t)
-          (closed_step false)).kind
-      kind_same true (empty A) = refl
-      kind_same true (leaf A t) = refl
-      kind_same true (unary A t) = refl
-      kind_same true (binary A a b) = refl
-      kind_same false t = refl
+  turn_row = rw (turn_kind, x.length_byte, x.left) refl
 
-      same_kind : (t : Tree) → root t ∷ (shown_shape sees m t).kind ∷ start_of at (length (word t))
-          ∷ length (word t) ∷ [] ≡ row sees t at
-      same_kind t =
-          ap (λ (k : ℕ). root t ∷ k ∷ start_of at (length (word t)) ∷ length (word t) ∷ [])
-          (kind_same (sees (root t)) t)
-
-  pub turn : Aim g m (shown_kids sees x.tree at ++ x.others) → n + kids_of_of st.kind ≤ top
+  pub turn : Aim g m (shown_kids sees x.tree at ++ x.others) → n + kids_of st.kind ≤ top
       → (out₁ out₂ : List ℕ) (r : ℕ)
-      → out₁ ≡ splice out (4 * n) (get_or out (4 * top) 0 ∷ st.kind
+      → out₁ ≡ splice out (4 * n) (get_or out (4 * top) 0 ∷ kind_byte st.kind
       ∷ start_of at (get_or out (4 * top + 2) 0) ∷ get_or out (4 * top + 2) 0 ∷ [])
-      → Branched out₁ out₂ (top + 1) r (kids_of_of st.kind)
-      (entries_of st.kind st.first st.second st.split at (get_or out (4 * top + 2) 0))
+      → Branched out₁ out₂ (top + 1) r (kids_of st.kind)
+      (entries_of st.kind at (get_or out (4 * top + 2) 0))
       → State sees g w u m out₂ cap (n + 1) r
   turn a fit out₁ out₂ r f b =
       let R = row sees x.tree at in
       let K = shown_kids sees x.tree at in
       let f' : out₁ ≡ splice out (4 * n) R = rw turn_row at f in
-      let k : length K ≡ kids_of_of st.kind = turn_kids in
+      let k : length K ≡ kids_of st.kind = turn_kids in
       let fits : 4 * n + 4 ≤ length out = omega (arith, x.within, x.count) in
       let long : length out₁ ≡ length out = ap length f' ∙ length_splice out (4 * n) R fits in
       let j : 4 * (n + 1) ≡ 4 * n + 4 = omega arith in
@@ -352,7 +335,7 @@ module _ {sees : View} {g : Rules} {w : Word} {u : Tree} {s : Bool} {out : List 
       )
 
   -- where the children have no room, the tree has more rows than there are places
-  pub over : top < n + kids_of_of st.kind → cap < shown_count sees u
+  pub over : top < n + kids_of st.kind → cap < shown_count sees u
   over h =
       let c = ap length x.written in
       let d = ap length (rows_split sees x.tree at) in
@@ -389,18 +372,18 @@ module _ {sees : View} {g : Rules} {w : Word} {u : Tree} {s : Bool} {out : List 
   -- all is written
   pub laid_full : State sees g w u s out cap n top → cap ≤ top → (l m : List ℕ)
       → length out ≡ length l
-      → m ≡ take (4 * n) out ++ replicate (length out - 4 * n) 0 → RowsWritten sees u l m n
+      → m ≡ take (4 * n) out ++ replicate (length out - 4 * n) 0 → RowsWritten sees u l m (Some n)
   laid_full x h l m e f =
       let r = done x h in
       let k : 4 * shown_count sees u ≡ 4 * n = sym (length_shown sees u 0) ∙ ap length r
       ∙ length-take-le (4 * n) out (omega (arith, x.count, x.within, x.room)) in
       let j : n ≡ shown_count sees u = omega arith in
       record {
-        enough = λ _. (rw (k, r, ← e) f, j);
+        enough = λ _. (rw (k, r, ← e) f, ap Some j);
         short = λ h'. absurd (omega (arith, x.count, x.within, x.room));
       }
 
 -- nothing is, for want of room
 pub laid_short : (sees : View) (u : Tree) (l m : List ℕ) → row_room l < shown_count sees u
-    → m ≡ filled (seen_by sees) l none → RowsWritten sees u l m 0
+    → m ≡ filled (seen_by sees) l none → RowsWritten sees u l m None
 laid_short sees u l m h f = record { enough = λ h'. absurd (omega arith); short = λ _. (f, refl) }

@@ -3,6 +3,7 @@ use mathlib.Core.Path.{◌≡◌, refl, sym, ap, ◌∙◌}
 use mathlib.Core.Bool.{Bool, true, false, cond}
 use mathlib.Core.List.{List, [], ◌∷◌, ◌++◌}
 use mathlib.Core.Option.{none}
+use Rattle.std.specs.Prelude.{Some, None}
 use Prim.Native.Nat.{ℕ, ◌+◌, ◌*◌, ◌-◌, ◌≤◌, ◌<◌}
 use native.Mathlib.Omega.{arith}
 use lib.ListN.{length, get_or, take, replicate, length-append}
@@ -20,35 +21,26 @@ use Rattle.tree_writer.specs.Written.{row_room, seen_by, filled}
 use Rattle.tree_choices.specs.Wanted.{Ready, Goal, Wanted}
 use Rattle.tree_writer.specs.RowsWritten.{RowsWritten}
 use Rattle.rows.specs.Bytes.{splice}
-use Rattle.rows.specs.Steps.{kids_of_of, closed_step, entries_of, Branched}
+use Rattle.rows.specs.declared.Kind.{Kind}
+use Rattle.rows.specs.Steps.{kind_byte, kids_of, entries_of, LeftWithin, Branched}
 use Rattle.tree_choices.specs.Picks.{HasChoice, Looked, seen, closed}
-use Rattle.tree_choices.proofs.Pending.{node_shape, shown_kids, shown_shape, Aim, aim_step}
-use Rattle.tree_choices.proofs.Pending.{aim_pass}
+use Rattle.tree_choices.proofs.Pending.{kind_at, shown_kids, shown_kind, shown_shape, Aim}
+use Rattle.tree_choices.proofs.Pending.{aim_step, aim_pass}
 use Rattle.tree_choices.proofs.Pending.{aim_choice}
 use Rattle.tree_writer.proofs.Memory.{goal_unique, State, state_start, Popped, pop, turn}
 use Rattle.tree_writer.proofs.Memory.{over, laid_full, laid_short}
 use Rattle.grammar.specs.Distinct.{Distinct}
 use Rattle.grammar.specs.Sentences.{spelled}
 
-shape_kind : (sees : View) (m : Bool) (t : Tree) → (shown_shape sees m t).kind ≤ 4
-shape_kind sees m t = go (sees (root t)) t
+kind_within : (sees : View) (t : Tree) → LeftWithin (shown_kind sees t) (length (word t))
+kind_within sees t = go (sees (root t)) t
   where
-    go : (b : Bool) (t : Tree) → (cond b (node_shape m t) (closed_step m)).kind ≤ 4
-    go true (empty A) = omega arith
-    go true (leaf A t) = omega arith
-    go true (unary A t) = omega arith
-    go true (binary A s t) = omega arith
-    go false t = omega arith
-
-shape_split : (sees : View) (m : Bool) (t : Tree) → (shown_shape sees m t).split ≤ length (word t)
-shape_split sees m t = go (sees (root t)) t
-  where
-    go : (b : Bool) (t : Tree) → (cond b (node_shape m t) (closed_step m)).split ≤ length (word t)
-    go true (empty A) = omega arith
-    go true (leaf A t) = omega arith
-    go true (unary A t) = omega arith
+    go : (b : Bool) (t : Tree) → LeftWithin (cond b (kind_at t) Kind.Closed) (length (word t))
+    go true (empty A) = tt
+    go true (leaf A t) = tt
+    go true (unary A t) = tt
     go true (binary A s t) = omega (arith, length-append (word s) (word t))
-    go false t = omega arith
+    go false t = tt
 
 module _ {sees : View} {g : Rules} {w : Word} {u : Tree} {s : Bool} {out : List ℕ} {cap n top : ℕ}
     (x : Popped sees g w u s out cap n top) where
@@ -94,31 +86,18 @@ module _ {sees : View} {g : Rules} {w : Word} {u : Tree} {s : Bool} {out : List 
     chosen_shape : st ≡ shown_shape sees st.seeking x.tree
     chosen_shape = looked_step.0
 
-    pub chosen_kind : st.kind ≤ 4
-    chosen_kind = omega (
-      arith,
-      ap (λ (y : Step). y.kind) chosen_shape,
-      shape_kind sees
-          st.seeking x.tree,
-    )
+    pub chosen_split : LeftWithin st.kind long
+    chosen_split = rw (ap (λ (y : Step). y.kind) chosen_shape, x.length_byte)
+        (kind_within sees x.tree)
 
-    pub chosen_split : st.split ≤ long
-    chosen_split = omega (
-      arith,
-      ap (λ (y : Step). y.split) chosen_shape,
-      shape_split sees
-          st.seeking x.tree,
-      x.length_byte,
-    )
-
-    pub chosen_turn : n + kids_of_of st.kind ≤ top → (out₁ out₂ : List ℕ) (r : ℕ)
-        → out₁ ≡ splice out (4 * n) (left ∷ st.kind ∷ start_of start long ∷ long ∷ [])
-        → Branched out₁ out₂ (top + 1) r (kids_of_of st.kind)
-        (entries_of st.kind st.first st.second st.split start long)
+    pub chosen_turn : n + kids_of st.kind ≤ top → (out₁ out₂ : List ℕ) (r : ℕ)
+        → out₁ ≡ splice out (4 * n) (left ∷ kind_byte st.kind ∷ start_of start long ∷ long ∷ [])
+        → Branched out₁ out₂ (top + 1) r (kids_of st.kind)
+        (entries_of st.kind start long)
         → State sees g w u st.seeking out₂ cap (n + 1) r
     chosen_turn = turn x st.seeking st chosen_shape looked_step.1
 
-    pub chosen_over : top < n + kids_of_of st.kind → cap < shown_count sees u
+    pub chosen_over : top < n + kids_of st.kind → cap < shown_count sees u
     chosen_over = over x st.seeking st chosen_shape
 
 -- what holds between two turns of the loop: the rows of the wanted tree are under way in a memory
@@ -157,7 +136,7 @@ module _ {sees : View} {g : Grammar} {s : Sentence} {ws hs : List ℕ} {seeking 
         → cap ≡ row_room l
         → m ≡ filled (seen_by sees) out none → (u : Tree)
         → Goal (rules_of g) 0 (spelled s) seeking u
-        → RowsWritten sees u l m 0
+        → RowsWritten sees u l m None
     running_over h l m e f z u a =
         let j = goal_unique r.formed.distinct 0 (spelled s) seeking u x.tree a x.goal in
         let k : length out ≡ length l = x.same ∙ e in
@@ -167,12 +146,13 @@ module _ {sees : View} {g : Grammar} {s : Sentence} {ws hs : List ℕ} {seeking 
     -- all is written
     pub running_done : cap ≤ top → (l m : List ℕ) → long ≡ length l
         → m ≡ take (4 * n) out ++ replicate (length out - 4 * n) 0
-        → (u : Tree) → Goal (rules_of g) 0 (spelled s) seeking u → RowsWritten sees u l m n
+        → (u : Tree) → Goal (rules_of g) 0 (spelled s) seeking u
+        → RowsWritten sees u l m (Some n)
     running_done h l m e z u a =
         let j = goal_unique r.formed.distinct 0 (spelled s) seeking u x.tree a x.goal in
         rw j (laid_full x.state h l m (x.same ∙ e) z)
 
 -- no place at all
 pub laid_none : (sees : View) (l m : List ℕ) → row_room l ≡ 0 → m ≡ filled (seen_by sees) l none
-    → (u : Tree) → RowsWritten sees u l m 0
+    → (u : Tree) → RowsWritten sees u l m None
 laid_none sees l m h e u = laid_short sees u l m (omega (arith, some_shown sees u)) e

@@ -1,7 +1,7 @@
 // The first and the second tree of a sentence, written as rows into lent bytes.
 #![tactic(auto)]
 
-ghost use Rattle.std.specs.Prelude.{◌≡◌, false, ◌+◌, ◌*◌, ◌-◌, ◌<◌};
+ghost use Rattle.std.specs.Prelude.{◌+◌, ◌*◌, ◌-◌, ◌<◌};
 ghost use Rattle.std.proofs.Math.Option.{Option, none, some};
 ghost use Rattle.grammar.specs.Trees.{Tree};
 ghost use Rattle.grammar.specs.Choices.{FirstTree};
@@ -20,17 +20,15 @@ use heights::{HEIGHTS, heights};
 use rows::{branch, clear, kids, put, start_of};
 use tree_choices::look;
 
-// How many rows each tree has, 0 for one that is not written; `fits` is false where a tree of the
-// answer has more rows than its memory has places (refusal 22).
+// How many rows each tree has, 0 for one that is not written.
 #[derive(Clone, Copy)]
 pub struct Counts {
-    pub fits: bool,
     pub first: usize,
     pub second: usize,
 }
 
 // The rows of the first tree or, seeking, of the second, with zeros after them; their number. Zeros
-// and 0 where they do not fit. A node outside the set `sees` is one row of kind 4. `hs` is the
+// and none where they do not fit. A node outside the set `sees` is one row of kind 4. `hs` is the
 // least heights where the sheet loops, and empty where it does not. Rows grow from the front,
 // pending nodes stand at the end, one place each: together they are at most the rows that are due.
 pub fn write(
@@ -41,7 +39,7 @@ pub fn write(
     sees: u64,
     out: &mut [u8],
     seeking: bool,
-) -> usize
+) -> Option<usize>
     requires ready { Ready g s words.now hs.now }
     requires wanted { Wanted (rules_of g) 0 (spelled s) seeking }
     ensures { (u : Tree) → Goal (rules_of g) 0 (spelled s) seeking u
@@ -50,49 +48,49 @@ pub fn write(
     let places = out.len() / 4;
     if places == 0 {
         clear(out, 0);
-        return 0;
+        return None;
     }
     let mut n: usize = 0;
     let mut top = places - 1;
     let mut seek = seeking;
-    put(out, 4 * top, 0, 0, s.count as u8, 0);
+    put(out, 4 * top, [0, 0, s.count as u8, 0]);
+    // Kept: a turn writes a row, but how many there are shows only once no node is pending.
     while top < places {
         let a = out[4 * top];
         let i = out[4 * top + 1];
         let l = out[4 * top + 2];
         let st = look(words, hs, s, g, sees, a, i, l, seek);
-        let kind = st.kind;
-        let more = kids(kind);
+        let more = kids(st.kind);
         if top < n + more {
             clear(out, 0);
-            return 0;
+            return None;
         }
-        put(out, 4 * n, a, kind, start_of(i, l), l);
-        top = branch(out, top + 1, i, l, st);
+        let kind = u8::from(st.kind);
+        put(out, 4 * n, [a, kind, start_of(i, l), l]);
+        top = branch(out, top + 1, i, l, st.kind);
         n += 1;
         seek = st.seeking;
     }
     clear(out, 4 * n);
-    n
+    Some(n)
 }
 
 // The verdict is none: neither tree.
-pub fn write_none(first: &mut [u8], second: &mut [u8]) -> Counts
+pub fn write_none(first: &mut [u8], second: &mut [u8]) -> Option<Counts>
     ensures { (dis : Display)
         → Written dis none none first.old second.old first.new
         second.new result }
 {
     clear(first, 0);
     clear(second, 0);
-    Counts {
-        fits: true,
+    Some(Counts {
         first: 0,
         second: 0,
-    }
+    })
 }
 
 // The first tree and, where there are `two`, the second, as they are shown, by the heights that are
-// lent.
+// lent. None where a tree of the answer has more rows than its memory has places (refusal 22).
 fn trees_by(
     words: &[u64],
     hs: &[u16],
@@ -102,7 +100,7 @@ fn trees_by(
     first: &mut [u8],
     second: &mut [u8],
     two: bool,
-) -> Counts
+) -> Option<Counts>
     requires ready { Ready g s words.now hs.now }
     requires wanted { Wanted (rules_of g) 0 (spelled s) two }
     ensures { (t : Tree) (u : Option Tree) → FirstTree (rules_of g) 0 (spelled s) t
@@ -110,29 +108,25 @@ fn trees_by(
         → Written (seen_by (member sees)) (some t) u first.old second.old
         first.new second.new result }
 {
-    let n = write(words, hs, s, g, sees, first, false);
-    if n == 0 {
+    let Some(n) = write(words, hs, s, g, sees, first, false) else {
         clear(second, 0);
-        return short();
-    }
+        return None;
+    };
     if !two {
         clear(second, 0);
-        return Counts {
-            fits: true,
+        return Some(Counts {
             first: n,
             second: 0,
-        };
+        });
     }
-    let m = write(words, hs, s, g, sees, second, true);
-    if m == 0 {
+    let Some(m) = write(words, hs, s, g, sees, second, true) else {
         clear(first, 0);
-        return short();
-    }
-    Counts {
-        fits: true,
+        return None;
+    };
+    Some(Counts {
         first: n,
         second: m,
-    }
+    })
 }
 
 // The same on a looping sheet. Its least heights stand in a local array, which this function alone
@@ -145,7 +139,7 @@ fn trees_low(
     first: &mut [u8],
     second: &mut [u8],
     two: bool,
-) -> Counts
+) -> Option<Counts>
     requires charted { Charted g s words.now }
     requires wanted { Wanted (rules_of g) 0 (spelled s) two }
     requires cyclic { Cyclic (rules_of g) }
@@ -168,7 +162,7 @@ pub fn write_trees(
     first: &mut [u8],
     second: &mut [u8],
     two: bool,
-) -> Counts
+) -> Option<Counts>
     requires charted { Charted g s words.now }
     requires wanted { Wanted (rules_of g) 0 (spelled s) two }
     ensures { (t : Tree) (u : Option Tree) → FirstTree (rules_of g) 0 (spelled s) t
@@ -181,15 +175,4 @@ pub fn write_trees(
     }
     let hs = [0u16; 1];
     trees_by(words, &hs[..0], s, g, sees, first, second, two)
-}
-
-// Refusal 22: no tree is written.
-fn short() -> Counts
-    ensures { result ≡ record { fits = false; first = 0; second = 0 } }
-{
-    Counts {
-        fits: false,
-        first: 0,
-        second: 0,
-    }
 }

@@ -26,7 +26,7 @@ pub returns : goal.returns
 returns c =
     let a = c.args in
     next_found a.g (spelled a.s) a.words.now a.start a.len
-    c.span_marks-k.result a.a a.rule a.left c.requires.formed a.s.count
+    c.span_marks-k.result a.a a.from.rule a.from.left c.requires.formed a.s.count
     c.next_rule.result (whole c.args.s (search rules) c.requires.count_bound.0)
     c.requires.count_bound.1 c.requires.span_sheet
     c.span_marks-k.ensures c.next_rule.ensures

@@ -1,73 +1,54 @@
-use mathlib.Core.Path.{sym, subst, subst₂}
+use mathlib.Core.Path.{sym, subst}
 use Prim.Native.Nat.{◌<◌}
 use native.Mathlib.Omega.{arith}
+use Rattle.std.specs.Prelude.{Some, None}
 use Rattle.grammar.specs.declared.Rule.{Rule}
 use Rattle.grammar.specs.Content.{SmallRule}
-use Rattle.choices.specs.declared.Split.{Split}
 use Rattle.choices.specs.Searches.{FirstSplit}
 use Rattle.tables.proofs.RulePlaces.{small_at, rule_read}
 use Rattle.choices.proofs.PickLaws.{reached_first, pick_here, pick_on, pick_none}
 use Rattle.choices.proofs.next_rule.Goals as goal
 
-pub loop-i-init : goal.loop-i-init
-loop-i-init c = let a = c.args in
-    reached_first a.words.now a.g a.n a.start a.len a.k a.a a.rule
-    a.left
+pub loop-rule-init : goal.loop-rule-init
+loop-rule-init c =
+    let a = c.args in
+    reached_first a.words.now a.g a.n a.start a.len a.k a.a a.from.rule a.from.left
 
-pub offset_bounds-g-i : goal.offset_bounds-g-i
-offset_bounds-g-i c = omega (arith, c.requires.formed)
+pub bounds-g-rule : goal.bounds-g-rule
+bounds-g-rule c = omega (arith, c.requires.formed)
 
-pub bounds-g-i : goal.bounds-g-i
-bounds-g-i c = omega (arith, c.requires.formed)
-
-pub next_split-p-requires : goal.next_split-p-requires
-next_split-p-requires c =
-    let i = c.loop-i.i in
-    let h : i < c.args.g.count = c.loop-i-test.true in record {
+pub next_split-requires : goal.next_split-requires
+next_split-requires c =
+    let i = c.loop-rule.rule in
+    let h : i < c.args.g.count = c.loop-rule-test.true in record {
       room = c.requires.room;
       small_rule = subst SmallRule (rule_read c.args.g i h)
           (small_at c.requires.formed i (omega (arith, c.requires.formed.whole)));
     }
 
-pub returns-in-At : goal.returns-in-At
-returns-in-At c =
+pub returns-in-Some : goal.returns-in-Some
+returns-in-Some c =
     let a = c.args in
-    let l = c.loop-i in
-    let h : l.i < a.g.count = c.loop-i-test.true in
-    pick_here a.words.now a.g a.n a.start a.len a.k a.a a.rule a.left
-    l.i l.from c.in-At.l (omega (arith, c.requires.formed.whole)) l.invariant
-    (subst₂ (λ (r : Rule) (u : Split). FirstSplit a.words.now a.n a.start a.len a.k
-    a.a r l.from u) (sym (rule_read a.g l.i h)) c.in-At.is
-    c.next_split-p.ensures)
+    let l = c.loop-rule in
+    let h : l.rule < a.g.count = c.loop-rule-test.true in
+    pick_here a.words.now a.g a.n a.start a.len a.k a.a a.from.rule a.from.left
+    l.rule l.least c.in-Some.left (omega (arith, c.requires.formed.whole)) l.invariant
+    (subst (λ (r : Rule). FirstSplit a.words.now a.n a.start a.len a.k a.a r l.least
+    (Some c.in-Some.left)) (sym (rule_read a.g l.rule h)) c.in-Some.ensures)
 
-pub overflow_add-i : goal.overflow_add-i
-overflow_add-i c = omega (
-  arith,
-  c.loop-i-test.true,
-  c.requires.formed,
-)
-
-pub loop-i-smaller : goal.loop-i-smaller
-loop-i-smaller c = omega (
-  arith,
-  c.loop-i-test.true,
-  c.requires.formed.whole,
-)
-
-pub loop-i-preserved : goal.loop-i-preserved
-loop-i-preserved c =
+pub loop-rule-preserved : goal.loop-rule-preserved
+loop-rule-preserved c =
     let a = c.args in
-    let l = c.loop-i in
-    let h : l.i < a.g.count = c.loop-i-test.true in
-    pick_on a.words.now a.g a.n a.start a.len a.k a.a a.rule a.left
-    l.i l.from l.invariant
-    (subst₂ (λ (r : Rule) (u : Split). FirstSplit a.words.now a.n a.start a.len a.k
-    a.a r l.from u) (sym (rule_read a.g l.i h)) c.in-Nowhere.is
-    c.next_split-p.ensures)
+    let l = c.loop-rule in
+    let h : l.rule < a.g.count = c.loop-rule-test.true in
+    pick_on a.words.now a.g a.n a.start a.len a.k a.a a.from.rule a.from.left
+    l.rule l.least l.invariant
+    (subst (λ (r : Rule). FirstSplit a.words.now a.n a.start a.len a.k a.a r l.least None)
+    (sym (rule_read a.g l.rule h)) c.in_default.ensures)
 
 pub returns : goal.returns
 returns c =
     let a = c.args in
-    let l = c.loop-i in
-    pick_none a.words.now a.g a.n a.start a.len a.k a.a a.rule a.left
-    l.i l.from (omega (arith, c.loop-i-test.false, c.requires.formed.whole)) l.invariant
+    let l = c.loop-rule in
+    pick_none a.words.now a.g a.n a.start a.len a.k a.a a.from.rule a.from.left
+    l.rule l.least (omega (arith, c.loop-rule-test.false, c.requires.formed.whole)) l.invariant

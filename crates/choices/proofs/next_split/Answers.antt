@@ -1,7 +1,7 @@
 use borrow.Author.Count.{below_more}
 use native.Mathlib.Omega.{arith}
 use Rattle.tables.specs.Tables.{One, by_marks}
-use Rattle.tables.proofs.Views.{fits_le, lefts_le}
+use Rattle.tables.proofs.Views.{fits_le}
 use Rattle.choices.proofs.next_split.Goals as goal
 
 pub returns-then-r-a : goal.returns-then-r-a
@@ -25,16 +25,6 @@ returns-then-clause_fits c =
       λ j x h q. l.invariant.1 j x h q.1,
     )
 
-pub overflow_add-left : goal.overflow_add-left
-overflow_add-left c =
-    omega (
-      arith,
-      c.last_left-last.ensures,
-      lefts_le
-          c.args.r.clause c.args.len,
-      c.requires.room,
-    )
-
 pub loop-left-preserved : goal.loop-left-preserved
 loop-left-preserved c =
     let l = c.loop-left in (
@@ -43,8 +33,8 @@ loop-left-preserved c =
           (λ h. c.clause_fits.ensures.isnt c.if-clause_fits.false),
     )
 
-pub returns : goal.returns
-returns c = λ j h q.
+pub returns-else-r-a : goal.returns-else-r-a
+returns-else-r-a c = λ j h q.
     let a = c.args in
     c.loop-left.invariant.1 j (omega (
       arith,

@@ -11,10 +11,7 @@ use Rattle.contained_spans.proofs.add_cuts.Given as goal
 abbrev pub Cut : ℕ → ℕ → ℕ → Clause → ℕ → ℕ → ℕ → Type 0
 Cut n s len c k q B = Kid n s len c (k - s) q B
 
-abbrev pub invariant-loop-rest : goal.invariant-loop-rest
-invariant-loop-rest l =
-    Joins (Gone (Cut l.n l.start l.len l.c) l.set l.rest) l.initial.reach l.reach
-    × ((k : ℕ) → In l.rest k → In l.set k)
-
-abbrev pub decreases-loop-rest : goal.decreases-loop-rest
-decreases-loop-rest l = l.rest
+abbrev pub invariant-loop-cut : goal.invariant-loop-cut
+invariant-loop-cut l =
+    Joins (Gone (Cut l.n l.start l.len l.c) l.set l.cut-iterator.rest) l.initial.reach l.reach
+    × ((k : ℕ) → In l.cut-iterator.rest k → In l.set k)

@@ -20,20 +20,6 @@ spread_start-requires c =
       done = l.invariant.3;
     }
 
-pub overflow_add-start : goal.overflow_add-start
-overflow_add-start c =
-    omega (
-      arith,
-      c.loop-start-test.true,
-      c.requires.known.0.few,
-    )
-
-pub loop-start-smaller : goal.loop-start-smaller
-loop-start-smaller c = omega (
-  arith,
-  c.loop-start-test.true,
-)
-
 pub loop-start-preserved : goal.loop-start-preserved
 loop-start-preserved c =
     let l = c.loop-start in

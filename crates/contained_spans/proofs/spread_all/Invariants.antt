@@ -1,6 +1,6 @@
 -- The loop's invariant: the spans of the starts before `start` are worked off.
 use mathlib.Core.Path.{◌≡◌}
-use Prim.Native.Nat.{◌-◌, ◌≤◌}
+use Prim.Native.Nat.{◌≤◌}
 use lib.ListN.{length}
 use Rattle.grammar.specs.Content.{rules_of}
 use Rattle.marks.specs.Drafts.{drafted}
@@ -14,7 +14,3 @@ invariant-loop-start l =
     (l.start ≤ l.d.count) × Columns l.words l.d.count l.cuts × SeenColumns l.d.count l.reach l.seen
     × Done (rules_of l.g) (drafted l.d) l.d.count l.start l.d.count l.reach l.parts
     × (length l.reach ≡ length l.initial.reach) × (length l.parts ≡ length l.initial.parts)
-
-abbrev pub decreases-loop-start : goal.decreases-loop-start
-decreases-loop-start l =
-    l.d.count - l.start

@@ -1,5 +1,6 @@
--- An arm for each kind: only a B clause has a left word.
+-- Only a B clause has a left word.
 use mathlib.Core.Path.{ap, subst}
+use mathlib.Core.Logic.{⊎_elim}
 use Rattle.grammar.specs.declared.Clause.{Clause}
 use Rattle.grammar.specs.Content.{SmallClause}
 use Rattle.tables.specs.Tables.{lefts}
@@ -14,26 +15,10 @@ spread_binary-requires c =
 pub returns-in-Empty : goal.returns-in-Empty
 returns-in-Empty c =
     let r = c.requires.ready in
+    let f = λ (x : Clause). lefts x c.args.len in
     spread_once c.args.c
-    (ap (λ (x : Clause). lefts x c.args.len)
-    c.in-Empty.is) r.long r.seen
+    (⊎_elim (ap f) (⊎_elim (λ e. ap f e.2) (λ e. ap f e.2)) c.in-Empty.is) r.long r.seen
     c.try_left.ensures
-
-pub returns-in-Atom : goal.returns-in-Atom
-returns-in-Atom c =
-    let r = c.requires.ready in
-    spread_once c.args.c
-    (ap (λ (x : Clause). lefts x c.args.len)
-    c.in-Atom.is) r.long r.seen
-    c.try_left-in-Atom.ensures
-
-pub returns-in-Unary : goal.returns-in-Unary
-returns-in-Unary c =
-    let r = c.requires.ready in
-    spread_once c.args.c
-    (ap (λ (x : Clause). lefts x c.args.len)
-    c.in-Unary.is) r.long r.seen
-    c.try_left-in-Unary.ensures
 
 pub returns-in-Binary : goal.returns-in-Binary
 returns-in-Binary c = rw c.in-Binary.is

@@ -17,12 +17,6 @@ clear-requires c = omega (
   c.requires.seen_columns.long,
 )
 
-pub overflow_sub-len : goal.overflow_sub-len
-overflow_sub-len c = omega (
-  arith,
-  c.requires.start_lt_count.0,
-)
-
 pub loop-len-init : goal.loop-len-init
 loop-len-init c = (
   omega (arith, c.requires.start_lt_count.0),
@@ -48,18 +42,6 @@ spread_span-requires c =
         seen = λ p. l.invariant.2;
       };
     }
-
-pub overflow_sub-len-in-loop-len : goal.overflow_sub-len-in-loop-len
-overflow_sub-len-in-loop-len c = omega (
-  arith,
-  c.loop-len-test.true,
-)
-
-pub loop-len-smaller : goal.loop-len-smaller
-loop-len-smaller c = omega (
-  arith,
-  c.loop-len-test.true,
-)
 
 pub loop-len-preserved : goal.loop-len-preserved
 loop-len-preserved c =

@@ -16,6 +16,3 @@ invariant-loop-len l =
     × SeenAt l.d.count l.start l.reach l.seen
     × Done (rules_of l.g) (drafted l.d) l.d.count l.start l.len l.reach l.parts
     × (length l.reach ≡ length l.initial.reach) × (length l.parts ≡ length l.initial.parts)
-
-abbrev pub decreases-loop-len : goal.decreases-loop-len
-decreases-loop-len l = l.len

@@ -3,8 +3,7 @@ use mathlib.Core.Path.{sym, ◌∙◌, subst, subst₂}
 use Prim.Native.Nat.{ℕ, ◌^◌, ◌<◌}
 use native.Mathlib.Omega.{arith}
 use lib.ListN.{get_or}
-use Rattle.sets.specs.declared.Member.{Member}
-use Rattle.sets.specs.declared.Member.TheVariants.{At, Nothing}
+use Rattle.std.specs.Prelude.{Option, Some, None}
 use Rattle.grammar.specs.SpanSheet.{pair_at}
 use Rattle.grammar.specs.Content.{rules_of, SmallRule}
 use Rattle.spans.proofs.Places.{pair_at_below, pairs_few}
@@ -149,15 +148,15 @@ bounds-reach-p c =
       pair_at_below a.n a.start a.len c.requires.room.0.fits,
     )
 
-pub shape_of-seen-in-Nothing : goal.shape_of-seen-in-Nothing
-shape_of-seen-in-Nothing c = c.loop-i.invariant.2
+pub shape_of-seen-in-None : goal.shape_of-seen-in-None
+shape_of-seen-in-None c = c.loop-i.invariant.2
     ∙ sym c.requires.ready.long
 
-pub shape_of-reach-in-Nothing : goal.shape_of-reach-in-Nothing
-shape_of-reach-in-Nothing c = trying_long c.loop-i.invariant.0
+pub shape_of-reach-in-None : goal.shape_of-reach-in-None
+shape_of-reach-in-None c = trying_long c.loop-i.invariant.0
 
-pub returns-in-Nothing : goal.returns-in-Nothing
-returns-in-Nothing c =
+pub returns-in-None : goal.returns-in-None
+returns-in-None c =
     let z : Works c.args.words.now (rules_of c.args.g) c.args.n c.args.start c.args.len c.args.k
     c.args.reach.now c.loop-i.reach c.loop-i.done c.noted-parted.result =
     trying_end (small_at c.requires.formed.0) c.requires.room.0.fits
@@ -165,10 +164,10 @@ returns-in-Nothing c =
     c.loop-i.invariant.0 c.noted-parted.ensures in
     let l = c.loop-i in
     let a = c.args in
-    let x : Fresh (get_or l.reach (pair_at a.n a.start a.len) 0) l.done Nothing =
-    subst₂ (λ (p : ℕ) (m : Member). Fresh (get_or l.reach p 0) l.done m)
+    let x : Fresh (get_or l.reach (pair_at a.n a.start a.len) 0) l.done None =
+    subst₂ (λ (p : ℕ) (m : Option ℕ). Fresh (get_or l.reach p 0) l.done m)
     c.pair_at-p.ensures
-    c.in-Nothing.is c.fresh-m.ensures in
+    c.in-None.is c.fresh-m.ensures in
     record {
       long = l.invariant.2;
       seen = l.invariant.3;
@@ -181,33 +180,33 @@ returns-in-Nothing c =
 pub with-done-requires : goal.with-done-requires
 with-done-requires c =
     let y : Fresh (get_or c.loop-i.reach (pair_at c.args.n c.args.start c.args.len) 0) c.loop-i.done
-    (At c.in-At.b) =
-    subst₂ (λ (p : ℕ) (m : Member). Fresh (get_or c.loop-i.reach p 0) c.loop-i.done m)
-    c.pair_at-p.ensures c.in-At.is c.fresh-m.ensures in
+    (Some c.in-Some.b) =
+    subst₂ (λ (p : ℕ) (m : Option ℕ). Fresh (get_or c.loop-i.reach p 0) c.loop-i.done m)
+    c.pair_at-p.ensures c.in-Some.is c.fresh-m.ensures in
     y.0
 
 pub overflow_cast-i : goal.overflow_cast-i
 overflow_cast-i c =
     let y : Fresh (get_or c.loop-i.reach (pair_at c.args.n c.args.start c.args.len) 0) c.loop-i.done
-    (At c.in-At.b) =
-    subst₂ (λ (p : ℕ) (m : Member). Fresh (get_or c.loop-i.reach p 0) c.loop-i.done m)
-    c.pair_at-p.ensures c.in-At.is c.fresh-m.ensures in
+    (Some c.in-Some.b) =
+    subst₂ (λ (p : ℕ) (m : Option ℕ). Fresh (get_or c.loop-i.reach p 0) c.loop-i.done m)
+    c.pair_at-p.ensures c.in-Some.is c.fresh-m.ensures in
     omega (arith, y.0)
 
 pub offset_bounds-lists-b : goal.offset_bounds-lists-b
 offset_bounds-lists-b c =
     let y : Fresh (get_or c.loop-i.reach (pair_at c.args.n c.args.start c.args.len) 0) c.loop-i.done
-    (At c.in-At.b) =
-    subst₂ (λ (p : ℕ) (m : Member). Fresh (get_or c.loop-i.reach p 0) c.loop-i.done m)
-    c.pair_at-p.ensures c.in-At.is c.fresh-m.ensures in
+    (Some c.in-Some.b) =
+    subst₂ (λ (p : ℕ) (m : Option ℕ). Fresh (get_or c.loop-i.reach p 0) c.loop-i.done m)
+    c.pair_at-p.ensures c.in-Some.is c.fresh-m.ensures in
     omega (arith, y.0)
 
 pub bounds-lists-b : goal.bounds-lists-b
 bounds-lists-b c =
     let y : Fresh (get_or c.loop-i.reach (pair_at c.args.n c.args.start c.args.len) 0) c.loop-i.done
-    (At c.in-At.b) =
-    subst₂ (λ (p : ℕ) (m : Member). Fresh (get_or c.loop-i.reach p 0) c.loop-i.done m)
-    c.pair_at-p.ensures c.in-At.is c.fresh-m.ensures in
+    (Some c.in-Some.b) =
+    subst₂ (λ (p : ℕ) (m : Option ℕ). Fresh (get_or c.loop-i.reach p 0) c.loop-i.done m)
+    c.pair_at-p.ensures c.in-Some.is c.fresh-m.ensures in
     omega (
       arith,
       y.0,
@@ -217,9 +216,9 @@ bounds-lists-b c =
 pub loop-i-smaller : goal.loop-i-smaller
 loop-i-smaller c =
     let y : Fresh (get_or c.loop-i.reach (pair_at c.args.n c.args.start c.args.len) 0) c.loop-i.done
-    (At c.in-At.b) =
-    subst₂ (λ (p : ℕ) (m : Member). Fresh (get_or c.loop-i.reach p 0) c.loop-i.done m)
-    c.pair_at-p.ensures c.in-At.is c.fresh-m.ensures in
+    (Some c.in-Some.b) =
+    subst₂ (λ (p : ℕ) (m : Option ℕ). Fresh (get_or c.loop-i.reach p 0) c.loop-i.done m)
+    c.pair_at-p.ensures c.in-Some.is c.fresh-m.ensures in
     let l = c.loop-i in
     let bound : c.with-done.result < 2 ^ 64 = search rules in
     omega (
@@ -238,14 +237,14 @@ loop-i-preserved c =
     (omega (arith, c.if-i-g.false, c.requires.formed.0.whole))
     c.loop-i.invariant.0 c.noted-parted.ensures in
     let y : Fresh (get_or c.loop-i.reach (pair_at c.args.n c.args.start c.args.len) 0) c.loop-i.done
-    (At c.in-At.b) =
-    subst₂ (λ (p : ℕ) (m : Member). Fresh (get_or c.loop-i.reach p 0) c.loop-i.done m)
-    c.pair_at-p.ensures c.in-At.is c.fresh-m.ensures in
+    (Some c.in-Some.b) =
+    subst₂ (λ (p : ℕ) (m : Option ℕ). Fresh (get_or c.loop-i.reach p 0) c.loop-i.done m)
+    c.pair_at-p.ensures c.in-Some.is c.fresh-m.ensures in
     let a = c.args in
     let l = c.loop-i in (
       rw c.with-done.ensures
           (trying_begin a.words.now (rules_of a.g) a.n a.start a.len a.k
-          c.in-At.b y.0 c.requires.formed.1
+          c.in-Some.b y.0 c.requires.formed.1
           z
           y.1),
       y.0,

@@ -28,16 +28,6 @@ load_ends-requires c = (
   ),
 )
 
-pub overflow_add-start : goal.overflow_add-start
-overflow_add-start c = omega (
-  arith,
-  c.loop-start-test.true,
-  c.requires.0.few,
-)
-
-pub loop-start-smaller : goal.loop-start-smaller
-loop-start-smaller c = omega (arith, c.loop-start-test.true)
-
 pub loop-start-preserved : goal.loop-start-preserved
 loop-start-preserved c =
     let a = c.args in

@@ -1,21 +1,19 @@
 use mathlib.Core.Path.{◌≡◌, ap, subst}
+use mathlib.Core.List.{List}
 use Prim.Native.Nat.{ℕ, ◌+◌, ◌-◌, ◌*◌, ◌<◌}
 use native.Mathlib.Omega.{arith}
 use lib.ListN.{get_or}
-use Rattle.grammar.specs.SpanSheet.{first_word}
+use Rattle.grammar.specs.SpanSheet.{first_word, pair_at}
 use Rattle.spans.proofs.Places.{pair_at_below, pairs_few}
 use Rattle.cuts.specs.Joining.{Joins}
 use Rattle.cuts.proofs.JoinLaws.{joins_as}
 use Rattle.cut_tables.specs.Tables.{SetBits}
-use Rattle.cut_tables.proofs.TurnLaws.{joins_zero, joins_next, joins_jump}
+use Rattle.cut_tables.proofs.TurnLaws.{Under, joins_zero, joins_next, joins_jump}
 use Rattle.cut_tables.proofs.load_ends.Invariants.{Turn}
 use Rattle.cut_tables.proofs.load_ends.Lts
 use Rattle.cut_tables.proofs.load_ends.Reads
 use Rattle.cut_tables.proofs.load_ends.Tie
 use Rattle.cut_tables.proofs.load_ends.Goals as goal
-
-pub overflow_add-end : goal.overflow_add-end
-overflow_add-end c = omega (arith, c.requires.0.few, c.requires.0.fits)
 
 pub loop-end-init : goal.loop-end-init
 loop-end-init c =
@@ -26,9 +24,6 @@ loop-end-init c =
       joins_jump T 0 (a.start + 1) (omega arith) (λ j q k x y t. omega (arith, t.0))
           (joins_zero T _),
     )
-
-pub overflow_sub-end : goal.overflow_sub-end
-overflow_sub-end c = omega (arith, c.loop-end.invariant.0)
 
 pub pair_at-at-requires : goal.pair_at-at-requires
 pair_at-at-requires c = (
@@ -93,32 +88,26 @@ load_set-requires c =
       ),
     )
 
-pub overflow_add-end-in-loop-end : goal.overflow_add-end-in-loop-end
-overflow_add-end-in-loop-end c = omega (
-  arith,
-  c.loop-end-test.true,
-  c.requires.0.few,
-)
-
-pub loop-end-smaller : goal.loop-end-smaller
-loop-end-smaller c = omega (arith, c.loop-end-test.true)
+-- the trees up to one more end
+step : (ws : List ℕ) (n start end p : ℕ) (old cuts new : List ℕ) → start < end
+    → p ≡ pair_at n start (end - start) → Joins (Under (Turn ws n start) end) old cuts
+    → Joins (SetBits (64 * end) (get_or ws (2 * p) 0) start) cuts new
+    → Joins (Under (Turn ws n start) (end + 1)) old new
+step ws n start end p old cuts new h e x y =
+    let f : get_or ws (2 * p) 0 ≡ first_word ws n start (end - start) =
+    ap (λ (q : ℕ). get_or ws (2 * q) 0) e in
+    joins_next (Turn ws n start) end x
+    (joins_as (λ q k z. (h, z)) (λ q k z. z.1)
+    (subst (λ (w : ℕ). Joins (SetBits (64 * end) w start) cuts new) f y))
 
 pub loop-end-preserved : goal.loop-end-preserved
 loop-end-preserved c =
     let a = c.args in
-    let l = c.loop-end in
-    let T = Turn a.words.now a.n a.start in
-    let e : get_or a.words.now (2 * c.pair_at-at.result) 0
-    ≡ first_word a.words.now a.n a.start (l.end - a.start) =
-    ap (λ (p : ℕ). get_or a.words.now (2 * p) 0)
-    c.pair_at-at.ensures in (
+    let l = c.loop-end in (
       omega (arith, l.invariant.0),
       omega (arith, c.loop-end-test.true),
-      joins_next T l.end l.invariant.2
-          (joins_as (λ q k x. (l.invariant.0, x)) (λ q k x. x.1)
-          (subst (λ (w : ℕ). Joins (SetBits (64 * l.end) w a.start) l.cuts
-          c.load_set.new.cuts) e
-          c.load_set.ensures)),
+      step a.words.now a.n a.start l.end c.pair_at-at.result a.cuts.now l.cuts c.load_set.new.cuts
+          l.invariant.0 c.pair_at-at.ensures l.invariant.2 c.load_set.ensures,
     )
 
 pub shape_of-cuts : goal.shape_of-cuts
@@ -129,3 +118,12 @@ returns c =
     let l = c.loop-end in
     joins_as (λ q k x. (x.0, (x.2.0, omega (arith, x.1, l.invariant.1), x.2.1)))
     (λ q k x. (x.0, omega (arith, x.1.1, c.loop-end-test.false), (x.1.0, x.1.2))) l.invariant.2
+
+pub returns-2 : goal.returns-2
+returns-2 c =
+    let a = c.args in
+    let l = c.loop-end in
+    let x = step a.words.now a.n a.start l.end c.pair_at-at.result a.cuts.now l.cuts
+    c.load_set.new.cuts l.invariant.0 c.pair_at-at.ensures l.invariant.2 c.load_set.ensures in
+    joins_as (λ q k x. (x.0, (x.2.0, omega (arith, x.1), x.2.1)))
+    (λ q k x. (x.0, omega (arith, x.1.1), (x.1.0, x.1.2))) x

@@ -14,9 +14,6 @@ use Rattle.cut_tables.proofs.load_row.Reads
 use Rattle.cut_tables.proofs.load_row.Tie
 use Rattle.cut_tables.proofs.load_row.Goals as goal
 
-pub overflow_add-end : goal.overflow_add-end
-overflow_add-end c = omega (arith, c.requires.0.few, c.requires.0.fits)
-
 pub loop-end-init : goal.loop-end-init
 loop-end-init c =
     let a = c.args in
@@ -26,9 +23,6 @@ loop-end-init c =
       joins_jump T 0 (a.start + 1) (omega arith) (λ j q k x y t. omega (arith, t.0))
           (joins_zero T _),
     )
-
-pub overflow_sub-end : goal.overflow_sub-end
-overflow_sub-end c = omega (arith, c.loop-end.invariant.0)
 
 pub pair_at-at-requires : goal.pair_at-at-requires
 pair_at-at-requires c = (
@@ -85,16 +79,6 @@ load_set-requires c =
         c.loop-end-test.true,
       ),
     )
-
-pub overflow_add-end-in-loop-end : goal.overflow_add-end-in-loop-end
-overflow_add-end-in-loop-end c = omega (
-  arith,
-  c.loop-end-test.true,
-  c.requires.0.few,
-)
-
-pub loop-end-smaller : goal.loop-end-smaller
-loop-end-smaller c = omega (arith, c.loop-end-test.true)
 
 pub loop-end-preserved : goal.loop-end-preserved
 loop-end-preserved c =

@@ -14,6 +14,3 @@ Turn ws n s j q k = (s < j) × SetBits 0 (first_word ws n s (j - s)) j q k
 abbrev pub invariant-loop-end : goal.invariant-loop-end
 invariant-loop-end l = (l.start < l.end) × (l.end ≤ l.n)
     × Joins (Under (Turn l.words l.n l.start) l.end) l.initial.cuts l.cuts
-
-abbrev pub decreases-loop-end : goal.decreases-loop-end
-decreases-loop-end l = l.n - l.end

@@ -10,9 +10,6 @@ use Rattle.cut_tables.proofs.load_set.Given as goal
 abbrev pub Member : ℕ → ℕ → ℕ → ℕ → ℕ → Type 0
 Member p c A q k = (A < 64) × (q ≡ p + A) × (k ≡ c)
 
-abbrev pub invariant-loop-rest : goal.invariant-loop-rest
-invariant-loop-rest l = Joins (Gone (Member l.p l.c) l.set l.rest) l.initial.cuts l.cuts
-    × ((k : ℕ) → In l.rest k → In l.set k)
-
-abbrev pub decreases-loop-rest : goal.decreases-loop-rest
-decreases-loop-rest l = l.rest
+abbrev pub invariant-loop-a : goal.invariant-loop-a
+invariant-loop-a l = Joins (Gone (Member l.p l.c) l.set l.a-iterator.rest) l.initial.cuts l.cuts
+    × ((k : ℕ) → In l.a-iterator.rest k → In l.set k)

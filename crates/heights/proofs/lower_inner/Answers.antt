@@ -34,16 +34,6 @@ lower_split-more-requires c =
           (omega (arith, c.requires.1.whole))),
     )
 
-pub overflow_add-i : goal.overflow_add-i
-overflow_add-i c = omega (
-  arith,
-  c.requires.1.few,
-  c.loop-i-test.true,
-)
-
-pub loop-i-smaller : goal.loop-i-smaller
-loop-i-smaller c = omega (arith, c.loop-i-test.true)
-
 pub loop-i-preserved : goal.loop-i-preserved
 loop-i-preserved c =
     let g = c.args.g in

@@ -1,5 +1,5 @@
 -- The loop's invariant: the rules passed are tried.
-use Prim.Native.Nat.{◌-◌, ◌≤◌}
+use Prim.Native.Nat.{◌≤◌}
 use Rattle.grammar.specs.Content.{rules_of}
 use Rattle.tables.specs.Tables.{by_marks}
 use Rattle.heights.specs.Falls.{HeightsTried, Inner}
@@ -9,6 +9,3 @@ abbrev pub invariant-loop-i : goal.invariant-loop-i
 invariant-loop-i l =
     (l.i ≤ l.g.count) × HeightsTried (rules_of l.g) (by_marks l.k l.len) l.n l.start l.len
     (Inner l.len l.i) l.initial.hs l.hs l.fell
-
-abbrev pub decreases-loop-i : goal.decreases-loop-i
-decreases-loop-i l = l.g.count - l.i

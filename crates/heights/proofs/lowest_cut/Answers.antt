@@ -11,24 +11,13 @@ loop-left-init c = (omega arith, inr refl, lowest_none _ 1)
 pub binary_tall-h-requires : goal.binary_tall-h-requires
 binary_tall-h-requires c = c.requires
 
-pub overflow_add-left : goal.overflow_add-left
-overflow_add-left c = omega (
-  arith,
-  c.loop-left-test.true,
-  c.requires.room.few,
-  c.requires.room.fits,
-)
-
-pub loop-left-smaller : goal.loop-left-smaller
-loop-left-smaller c = omega (arith, c.loop-left-test.true)
-
 pub loop-left-preserved : goal.loop-left-preserved
 loop-left-preserved c =
     let i = c.loop-left.invariant in (
       omega arith,
       inl (omega (arith, c.loop-left-test.true)),
       subst
-          (Lowest _ _ _ _ _ 1 _) (sym c.lesser-best.ensures)
+          (Lowest _ _ _ _ _ 1 _) (sym c.min-best.ensures)
           (lowest_more _ 1 _ i.0 i.2 c.binary_tall-h.ensures),
     )
 

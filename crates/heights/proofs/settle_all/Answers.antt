@@ -1,4 +1,4 @@
-use mathlib.Core.Path.{◌≡◌, refl, sym, ◌∙◌, subst}
+use mathlib.Core.Path.{◌≡◌, sym, ◌∙◌, subst}
 use Prim.Native.Nat.{◌+◌}
 use native.Mathlib.Omega.{arith}
 use lib.ListN.{length}
@@ -19,54 +19,29 @@ settle-requires c = (
 )
 
 pub loop-len-init : goal.loop-len-init
-loop-len-init c = (
-  omega arith,
-  omega arith,
-  refl,
-  filled_first (lefts_formed c.requires.whole.1) c.requires.filled
-      c.settle.ensures,
-)
+loop-len-init c =
+    (omega arith, filled_first (lefts_formed c.requires.whole.1) c.requires.filled c.settle.ensures)
 
 pub settle_row-requires : goal.settle_row-requires
-settle_row-requires c = let i = c.loop-len.invariant in record {
-  whole = (
-    c.requires.whole.0,
-    i.0,
-    omega
-        (arith, i.2, c.loop-len-test.true),
-    c.requires.whole.1,
-  );
-  filled = i.3;
+settle_row-requires c = record {
+  whole = (c.requires.whole.0, omega arith, c.loop-len-test.true, c.requires.whole.1);
+  filled = c.loop-len.invariant.1;
 }
 
-pub overflow_add-len : goal.overflow_add-len
-overflow_add-len c = omega (
-  arith,
-  c.loop-len.invariant.1,
-  c.requires.whole.0.few,
-)
-
-pub loop-len-smaller : goal.loop-len-smaller
-loop-len-smaller c = omega (
-  arith,
-  c.loop-len.invariant.2,
-  c.loop-len-test.true,
-)
-
 pub loop-len-preserved : goal.loop-len-preserved
-loop-len-preserved c = let i = c.loop-len.invariant in (
-  omega (arith, i.0),
-  omega (arith, i.2, c.loop-len-test.true),
-  i.2,
-  c.settle_row.ensures,
-)
+loop-len-preserved c = (omega (arith, c.loop-len-test.true), c.settle_row.ensures)
 
 pub shape_of-hs : goal.shape_of-hs
-shape_of-hs c = c.loop-len.invariant.3.long ∙ sym
-    c.requires.filled.long
+shape_of-hs c = c.loop-len.invariant.1.long ∙ sym c.requires.filled.long
 
 pub returns : goal.returns
-returns c = let i = c.loop-len.invariant in
-    let e : c.loop-len.len ≡ length (drafted c.args.d)
-    + 1 = omega (arith, i.1, i.2, c.loop-len-test.false, c.requires.whole.0.whole) in
-    filled_right (subst (Filled _ _ _ 0) e i.3)
+returns c =
+    let e : c.loop-len.len ≡ length (drafted c.args.d) + 1 =
+    omega (arith, c.loop-len.invariant.0, c.loop-len-test.false, c.requires.whole.0.whole) in
+    filled_right (subst (Filled _ _ _ 0) e c.loop-len.invariant.1)
+
+pub returns-2 : goal.returns-2
+returns-2 c =
+    let e : c.loop-len.len + 1 ≡ length (drafted c.args.d) + 1 =
+    omega (arith, c.requires.whole.0.whole) in
+    filled_right (subst (Filled _ _ _ 0) e c.settle_row.ensures)

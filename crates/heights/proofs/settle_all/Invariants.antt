@@ -1,6 +1,5 @@
 -- The loop's invariant: the rows passed are done. Once all are, the numbers are the least heights.
-use mathlib.Core.Path.{◌≡◌}
-use Prim.Native.Nat.{◌+◌, ◌-◌, ◌≤◌, ◌<◌}
+use Prim.Native.Nat.{◌+◌, ◌≤◌}
 use Rattle.grammar.specs.Content.{rules_of}
 use Rattle.marks.specs.Drafts.{drafted}
 use Rattle.heights.specs.Filled.{Filled}
@@ -8,8 +7,4 @@ use Rattle.heights.proofs.settle_all.Given as goal
 
 abbrev pub invariant-loop-len : goal.invariant-loop-len
 invariant-loop-len l =
-    (0 < l.len) × (l.len ≤ l.d.count + 1) × (l.n ≡ l.d.count)
-    × Filled l.hs (rules_of l.g) (drafted l.d) 0 l.len
-
-abbrev pub decreases-loop-len : goal.decreases-loop-len
-decreases-loop-len l = l.d.count + 1 - l.len
+    (l.len ≤ l.d.count + 1) × Filled l.hs (rules_of l.g) (drafted l.d) 0 l.len

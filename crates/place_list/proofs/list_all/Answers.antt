@@ -15,12 +15,6 @@ list_row-k-requires c = let l = c.loop-len in
       count_le_at = l.invariant.1.few;
     }
 
-pub overflow_sub-len : goal.overflow_sub-len
-overflow_sub-len c = omega (arith, c.loop-len-test.true)
-
-pub loop-len-smaller : goal.loop-len-smaller
-loop-len-smaller c = omega (arith, c.loop-len-test.true)
-
 pub loop-len-preserved : goal.loop-len-preserved
 loop-len-preserved c = let l = c.loop-len in
     (omega (arith, l.invariant.0), lists_then l.invariant.1 c.list_row-k.ensures)

@@ -10,6 +10,3 @@ abbrev pub invariant-loop-len : goal.invariant-loop-len
 invariant-loop-len l = (l.len ≤ l.s.count)
     × Lists (rules_of l.g) (spelled l.s) l.initial.list l.list l.initial.k l.k (entry 0 0 l.s.count)
     (entry 0 0 l.len)
-
-abbrev pub decreases-loop-len : goal.decreases-loop-len
-decreases-loop-len l = l.len

@@ -1,5 +1,5 @@
 -- `list_span` meets its contract. The loop's invariant: the places before `a` are listed.
-use Prim.Native.Nat.{◌-◌, ◌≤◌}
+use Prim.Native.Nat.{◌≤◌}
 use Rattle.grammar.specs.Content.{rules_of}
 use Rattle.grammar.specs.Sentences.{spelled}
 use Rattle.place_list.specs.Steps.{entry, Lists}
@@ -9,6 +9,3 @@ abbrev pub invariant-loop-a : goal.invariant-loop-a
 invariant-loop-a l =
     (l.a ≤ 64) × Lists (rules_of l.g) (spelled l.s) l.initial.list l.list l.initial.k l.k
     (entry 0 l.start l.len) (entry l.a l.start l.len)
-
-abbrev pub decreases-loop-a : goal.decreases-loop-a
-decreases-loop-a l = 64 - l.a

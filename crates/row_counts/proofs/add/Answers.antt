@@ -1,10 +1,7 @@
--- `add` meets its contract.
-use mathlib.Core.Path.{sym}
-use Rattle.row_counts.proofs.CappedLaws.{capped_small, capped_large}
+-- `add` meets its contract: `capped` is the lesser of a count and the limit.
+use Rattle.row_counts.specs.Capped.{capped}
 use Rattle.row_counts.proofs.add.Goals as goal
 
-pub returns-then-sum-lt-LIMIT : goal.returns-then-sum-lt-LIMIT
-returns-then-sum-lt-LIMIT c = sym (capped_small _ c.if-sum-lt-LIMIT.true)
-
-pub returns-else-sum-lt-LIMIT : goal.returns-else-sum-lt-LIMIT
-returns-else-sum-lt-LIMIT c = sym (capped_large _ c.if-sum-lt-LIMIT.false)
+pub returns : goal.returns
+unfolding capped
+returns c = c.min.ensures

@@ -26,8 +26,8 @@ count_first-a-requires c =
       first_there = spanned_there c.args.s.count p.whole (wanted_first _ c.requires.wanted).goal;
     }
 
-pub exact_or_more-first-requires : goal.exact_or_more-first-requires
-exact_or_more-first-requires c =
+pub told-first-requires : goal.told-first-requires
+told-first-requires c =
     let count-first = c.count_first-a in
     let t = wanted_first _ c.requires.wanted in
     omega (
@@ -38,8 +38,8 @@ exact_or_more-first-requires c =
           (row_count t.tree),
     )
 
-pub exact_or_more-second-requires : goal.exact_or_more-second-requires
-exact_or_more-second-requires c = c.count_second-b.ensures.small
+pub told-second-requires : goal.told-second-requires
+told-second-requires c = c.count_second-b.ensures.small
 
 pub returns : goal.returns
 unfolding capped
@@ -47,8 +47,8 @@ returns c =
     let first = c.count_first-a.ensures in
     let second = c.count_second-b.ensures in
     record {
-      first = λ t f. c.exact_or_more-first.ensures (row_count t)
+      first = λ t f. c.told-first.ensures (row_count t)
           (first t (spanned c.args.s.count c.requires.ready.positioned.whole f));
-      second = λ e u v. c.exact_or_more-second.ensures (row_count u) (second.counted e u v);
-      lacking = λ e. c.exact_or_more-second.ensures 0 (second.lacking e);
+      second = λ e u v. c.told-second.ensures (row_count u) (second.counted e u v);
+      lacking = λ e. c.told-second.ensures 0 (second.lacking e);
     }

@@ -1,7 +1,6 @@
 -- `count_first` meets its contract: the table over the empty word, the walk over the others.
-use mathlib.Core.Path.{◌≡◌, ap, ◌∙◌, subst}
+use mathlib.Core.Path.{◌≡◌, subst}
 use Prim.Native.Nat.{ℕ}
-use lib.ListN.{get_or}
 use Rattle.grammar.specs.Choices.{FirstTree}
 use Rattle.grammar.specs.Content.{rules_of}
 use Rattle.grammar.specs.SpanSheet.{part}
@@ -14,6 +13,5 @@ returns-then-l-eq0 c =
     let if1 = if1-here in
     let a = c.args in
     λ t f. let e : a.l ≡ 0 = if1.true in
-    ap (λ (y : ℕ). get_or a.z.now y 0) c.wide-at.ensures
-    ∙ c.requires.nulls.count a.a t c.requires.ready.1
+    c.requires.nulls.count a.a t c.requires.ready.1
     (subst (λ (n : ℕ). FirstTree (rules_of a.g) a.a (part (spelled a.s) a.i n) t) e f)

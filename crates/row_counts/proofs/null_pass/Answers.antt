@@ -20,9 +20,6 @@ null_try-found-requires c = record {
   sound = c.loop-a.invariant.1.sound;
 }
 
-pub loop-a-smaller : goal.loop-a-smaller
-loop-a-smaller c = omega (arith, c.loop-a-test.true)
-
 pub loop-a-preserved : goal.loop-a-preserved
 loop-a-preserved c =
     let loop = c.loop-a in

@@ -6,7 +6,6 @@ use mathlib.Core.List.{[]}
 use Prim.Native.Nat.{ℕ, ◌*◌, ◌≤◌, ◌<◌}
 use native.Mathlib.Omega.{arith}
 use lib.ListN.{length, get_or}
-use lib.ListN.{set}
 use Rattle.sets.proofs.Basics.{not_zero}
 use Rattle.sets.specs.Says.{Says}
 use Rattle.sets.specs.Sets.{In}
@@ -16,7 +15,6 @@ use Rattle.grammar.specs.Content.{rules_of}
 use Rattle.grammar.specs.SpanSheet.{pairs, first_word}
 use Rattle.grammar.proofs.ChoiceLaws.{first_witness, takes_of}
 use Rattle.tree_choices.specs.Picks.{HasChoice}
-use Rattle.row_counts.specs.Nulls.{NullsTried}
 use Rattle.row_counts.proofs.NullLaws.{small, found_size, not_known, passed_none}
 use Rattle.row_counts.proofs.NullLaws.{passed_found}
 use Rattle.row_counts.proofs.SizeLaws.{chosen_small}
@@ -59,12 +57,10 @@ there z e x = let d = bit z x e in let t = takes_of d.witness.valid in
 
 pub returns-then-z-at-ne0 : goal.returns-then-z-at-ne0
 returns-then-z-at-ne0 c =
-    let wide-here = c.wide-at in
-    let wide = wide-here in
     let a = c.args in
     passed_none _ c.requires.sound
-    (λ B t d f k. let h = c.if-z-at-ne0.true in let e : B ≡ wide.result = d ∙ sym wide.ensures in
-    not_zero _ (λ q. h (ap (λ (y : ℕ). get_or a.z.now y 0) (sym e) ∙ q)))
+    (λ B t d f k. not_zero _ (λ q. c.if-z-at-ne0.true
+    (ap (λ (y : ℕ). get_or a.z.now y 0) (sym d) ∙ q)))
 
 pub in_first-requires : goal.in_first-requires
 in_first-requires c =
@@ -82,7 +78,7 @@ pub returns-then-not-in_first : goal.returns-then-not-in_first
 returns-then-not-in_first c =
     let a = c.args in
     passed_none _ c.requires.sound
-    (λ B t d f k. absurd (not_there c.before.before.before.before.before.before.before.before.before
+    (λ B t d f k. absurd (not_there c.before.before.before.before.before.before.before.before
     c.if-not-in_first.true c.in_first.ensures t
     (subst (λ (x : ℕ). FirstTree (rules_of a.g) x [] t) d f)))
 
@@ -90,7 +86,7 @@ pub choose-st-requires : goal.choose-st-requires
 choose-st-requires c =
     let a = c.args in record {
       ready = (c.requires.ready.0, omega arith);
-      has_choice = there c.before.before.before.before.before.before.before.before.before
+      has_choice = there c.before.before.before.before.before.before.before.before
           c.if-not-in_first.false
           c.in_first.ensures;
     }
@@ -100,7 +96,7 @@ null_size-n-requires c =
     let a = c.args in record {
       z_len = c.requires.sound.long;
       by_index = small a.z.now c.requires.sound;
-      first_bound = chosen_small c.requires.ready.0.formed
+      small = chosen_small c.requires.ready.0.formed
           c.choose-st.ensures;
     }
 
@@ -116,25 +112,12 @@ returns-then-n-eq0 c =
 
 pub returns : goal.returns
 returns c =
-    let wide-here = c.wide-at in
-    let if1-here = c.if-z-at-ne0 in
-    let in-first-here = c.in_first in
-    let if2-here = c.if-not-in_first in
-    let choose-here = c.choose-st in
-    let wide = wide-here in
-    let if1 = if1-here in
-    let in_first = in-first-here in
-    let if2 = if2-here in
-    let choose = choose-here in
     let a = c.args in
     let f = tree
-    c.before.before.before.before.before.before.before.before.before.before.before.before
-    if2.false in_first.ensures in
+    c.before.before.before.before.before.before.before.before.before.before.before
+    c.if-not-in_first.false c.in_first.ensures in
     let p : 0 < c.null_size-n.result = not_zero _ c.if-n-eq0.false in
-    let h : get_or a.z.now a.a 0 ≡ 0 =
-    ap (λ (y : ℕ). get_or a.z.now y 0) (sym wide.ensures) ∙ if1.false in
-    subst (λ (x : ℕ). NullsTried (rules_of a.g) (λ B. B ≡ a.a) a.z.now
-    (set a.z.now x c.null_size-n.result) true) (sym wide.ensures)
-    (passed_found a.a c.null_size-n.result f.0 c.requires.sound c.requires.ready.1 h p
-    f.1 (found_size a.z.now c.requires.sound c.requires.ready.0.formed.distinct a.a f.0
-    f.1 choose.result choose.ensures _ c.null_size-n.ensures p))
+    passed_found a.a c.null_size-n.result f.0 c.requires.sound c.requires.ready.1
+    c.if-z-at-ne0.false p f.1
+    (found_size a.z.now c.requires.sound c.requires.ready.0.formed.distinct a.a f.0
+    f.1 c.choose-st.result c.choose-st.ensures _ c.null_size-n.ensures p)

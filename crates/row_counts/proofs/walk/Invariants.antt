@@ -8,7 +8,7 @@ use Rattle.row_counts.proofs.walk.Given as goal
 
 abbrev pub invariant-loop-total : goal.invariant-loop-total
 invariant-loop-total l =
-    Going (rules_of l.g) (spelled l.s) l.b l.j l.n l.end l.names l.longs l.a l.i l.l l.total
+    Going (rules_of l.g) (spelled l.s) l.b l.j l.n l.end l.waits l.a l.i l.l l.total
 
 abbrev pub decreases-loop-total : goal.decreases-loop-total
 decreases-loop-total l =

@@ -7,8 +7,6 @@ use borrow.Author.Tests.{not-true, not-false}
 use Rattle.grammar.specs.Rows.{row_count}
 use Rattle.grammar.specs.Content.{rules_of}
 use Rattle.grammar.specs.SpanSheet.{part, pairs}
-use Rattle.sets.specs.Sets.{In}
-use Rattle.grammar.specs.SpanSheet.{second_word}
 use Rattle.rows.specs.declared.Step.{Step}
 use Rattle.tree_choices.specs.Picks.{PickedStep}
 use Rattle.row_counts.specs.declared.Way.{Way}
@@ -17,7 +15,8 @@ use Rattle.row_counts.proofs.CappedLaws.{capped_le}
 use Rattle.row_counts.proofs.SizeLaws.{chosen_small}
 use Rattle.row_counts.proofs.WalkLaws.{less_left}
 use Rattle.row_counts.proofs.SecondLaws.{SecondGoing, Onway, second_start, second_choice}
-use Rattle.row_counts.proofs.SecondLaws.{here_parted, here_end, split_le, onway, beside_some}
+use Rattle.row_counts.proofs.SecondLaws.{here_parted, here_end, split_le, onway, no_leaf}
+use Rattle.row_counts.proofs.SecondLaws.{beside_some}
 use Rattle.row_counts.proofs.SecondLaws.{second_all, second_large}
 use Rattle.grammar.specs.Sentences.{spelled}
 use Rattle.row_counts.proofs.walk_second.Lts
@@ -31,15 +30,12 @@ way : (z : Lts.Start Tie.the-claims Reads.Pre Reads.Post goal.the-invariant-loop
     (v : SecondGoing (rules_of z.args.g) (spelled z.args.s) b i l total) (st : Step)
     → PickedStep (rules_of z.args.g) b (part (spelled z.args.s) i l) true st
     → st.seeking ≡ true
-    → (d : Way) → Onward (In (second_word z.args.words.now z.args.s.count i st.split)
-    st.first) st.kind st.first st.second st.split i
-    l d
+    → (d : Way) → Onward z.args.words.now z.args.s.count st.kind i l d
     → Onway (rules_of z.args.g) (spelled z.args.s) (row_count v.wanted.tree) total d
 way z b i l total v st c e d o =
     let p = z.requires.ready in
     onway p.formed v.walk st c e z.args.words.now p.sheet d
-    (subst (λ (n : ℕ). Onward (In (second_word z.args.words.now n i st.split) st.first)
-    st.kind st.first st.second st.split i l d) (sym p.positioned.whole) o)
+    (subst (λ (n : ℕ). Onward z.args.words.now n st.kind i l d) (sym p.positioned.whole) o)
 
 pub overflow_cast-l : goal.overflow_cast-l
 overflow_cast-l c = omega (arith, c.requires.ready.positioned.few)
@@ -61,10 +57,8 @@ choose-st-requires c =
 
 pub under-requires : goal.under-requires
 under-requires c =
-    let loop-here = c.loop-total in
-    let choose-here = c.choose-st in
-    let loop = loop-here in
-    let choose = choose-here in
+    let loop = c.loop-total in
+    let choose = c.choose-st in
     let a = c.args in
     let v = loop.invariant in record {
       ready = (c.requires.ready, omega (arith, v.walk.fits, c.requires.ready.positioned.whole));
@@ -78,10 +72,8 @@ under-requires c =
 
 pub add-requires : goal.add-requires
 add-requires c =
-    let loop-here = c.loop-total in
-    let choose-here = c.choose-st in
-    let loop = loop-here in
-    let choose = choose-here in
+    let loop = c.loop-total in
+    let choose = c.choose-st in
     let a = c.args in
     let v = loop.invariant in (
       v.walk.few,
@@ -96,12 +88,9 @@ add-requires c =
 
 pub returns-then-not-st : goal.returns-then-not-st
 returns-then-not-st c =
-    let loop-here = c.loop-total in
-    let choose-here = c.choose-st in
-    let if1-here = c.if-not-st in
-    let loop = loop-here in
-    let choose = choose-here in
-    let if1 = if1-here in
+    let loop = c.loop-total in
+    let choose = c.choose-st in
+    let if1 = c.if-not-st in
     let v = loop.invariant in
     second_all c.requires.ready.formed.distinct v.wanted _
     (here_end c.requires.ready.formed v.walk choose.result choose.ensures
@@ -110,10 +99,8 @@ returns-then-not-st c =
 
 pub onward-d-requires : goal.onward-d-requires
 onward-d-requires c =
-    let loop-here = c.loop-total in
-    let choose-here = c.choose-st in
-    let loop = loop-here in
-    let choose = choose-here in
+    let loop = c.loop-total in
+    let choose = c.choose-st in
     let a = c.args in
     let v = loop.invariant in
     let p = c.requires.ready in
@@ -122,16 +109,16 @@ onward-d-requires c =
       fits = omega (arith, v.walk.fits, p.positioned.whole);
       enough = subst (λ (n : ℕ). 2 * pairs n ≤ length a.words.now) p.positioned.whole
           p.sheet.enough;
-      small = (chosen_small p.formed choose.ensures).0;
+      small = chosen_small p.formed choose.ensures;
       split = split_le p.formed v.walk choose.result choose.ensures;
+      inner = no_leaf p.formed v.walk choose.result choose.ensures
+          (not-false _ c.if-not-st.false) a.words.now p.sheet;
     }
 
 pub beside-requires : goal.beside-requires
 beside-requires c =
-    let loop-here = c.loop-total in
-    let choose-here = c.choose-st in
-    let loop = loop-here in
-    let choose = choose-here in
+    let loop = c.loop-total in
+    let choose = c.choose-st in
     let a = c.args in
     let v = loop.invariant in record {
       ready = c.requires.ready;
@@ -144,31 +131,23 @@ beside-requires c =
 
 pub add-total-requires : goal.add-total-requires
 add-total-requires c =
-    let loop-here = c.loop-total in
-    let choose-here = c.choose-st in
-    let if1-here = c.if-not-st in
-    let loop = loop-here in
-    let choose = choose-here in
-    let if1 = if1-here in
+    let loop = c.loop-total in
+    let choose = c.choose-st in
+    let if1 = c.if-not-st in
     let a = c.args in
     let v = loop.invariant in
     let w = way c.before.before.before.before.before.before.before.before.before.before.before
     loop.a loop.i loop.l loop.total v choose.result choose.ensures
     (not-false _ if1.false) c.onward-d.result c.onward-d.ensures in
-    (v.walk.few, (beside_some w.beside c.beside.ensures).1)
+    (v.walk.few, (beside_some _ _ _ _ w.beside c.beside.ensures).1)
 
 pub loop-total-smaller : goal.loop-total-smaller
 loop-total-smaller c =
-    let loop-here = c.loop-total in
-    let loop-test-here = c.loop-total-test in
-    let choose-here = c.choose-st in
-    let if1-here = c.if-not-st in
-    let onward-here = c.onward-d in
-    let loop = loop-here in
-    let loop-test = loop-test-here in
-    let choose = choose-here in
-    let if1 = if1-here in
-    let onward = onward-here in
+    let loop = c.loop-total in
+    let loop-test = c.loop-total-test in
+    let choose = c.choose-st in
+    let if1 = c.if-not-st in
+    let onward = c.onward-d in
     let a = c.args in
     let v = loop.invariant in
     let w = way
@@ -176,18 +155,14 @@ loop-total-smaller c =
     loop.i loop.l loop.total v choose.result choose.ensures
     (not-false _ if1.false) onward.result onward.ensures in
     less_left loop.total c.beside.result c.add-total.result loop-test.true
-    (beside_some w.beside c.beside.ensures).0 c.add-total.ensures
+    (beside_some _ _ _ _ w.beside c.beside.ensures).0 c.add-total.ensures
 
 pub loop-total-preserved : goal.loop-total-preserved
 loop-total-preserved c =
-    let loop-here = c.loop-total in
-    let choose-here = c.choose-st in
-    let if1-here = c.if-not-st in
-    let onward-here = c.onward-d in
-    let loop = loop-here in
-    let choose = choose-here in
-    let if1 = if1-here in
-    let onward = onward-here in
+    let loop = c.loop-total in
+    let choose = c.choose-st in
+    let if1 = c.if-not-st in
+    let onward = c.onward-d in
     let a = c.args in
     let v = loop.invariant in
     let w = way

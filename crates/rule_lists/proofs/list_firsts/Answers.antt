@@ -10,8 +10,8 @@ use Rattle.rule_lists.proofs.list_firsts.Goals as goal
 pub loop-a-init : goal.loop-a-init
 loop-a-init c = (omega arith, c.requires.lists_len, record { first = λ A h. absurd (omega arith) })
 
-pub rule_from-r-requires : goal.rule_from-r-requires
-rule_from-r-requires c = (c.requires.formed, omega arith)
+pub rule_from-requires : goal.rule_from-requires
+rule_from-requires c = (c.requires.formed, omega arith)
 
 pub overflow_cast-lists : goal.overflow_cast-lists
 overflow_cast-lists c = omega (arith, c.loop-a-test.true)
@@ -22,21 +22,15 @@ offset_bounds-lists-a c = omega (arith, c.loop-a-test.true)
 pub bounds-lists-a : goal.bounds-lists-a
 bounds-lists-a c = omega (arith, c.loop-a-test.true, c.loop-a.invariant.1)
 
-pub overflow_add-a : goal.overflow_add-a
-overflow_add-a c = omega (arith, c.loop-a-test.true)
-
-pub loop-a-smaller : goal.loop-a-smaller
-loop-a-smaller c = omega (arith, c.loop-a-test.true)
-
 pub loop-a-preserved : goal.loop-a-preserved
 loop-a-preserved c =
     let l = c.loop-a in (
       omega (arith, c.loop-a-test.true),
-      length-set l.lists l.a c.rule_from-r.result
+      length-set l.lists l.a c.unwrap_or-r.result
           ∙ l.invariant.1,
-      firsts_more c.rule_from-r.result
+      firsts_more c.unwrap_or-r.result
           (omega (arith, c.loop-a-test.true, l.invariant.1)) l.invariant.2
-          c.rule_from-r.ensures,
+          (rw c.unwrap_or-r.ensures c.rule_from.ensures),
     )
 
 pub shape_of-lists : goal.shape_of-lists

@@ -1,6 +1,6 @@
 -- The loop's invariant: the nonterminals passed have the place of their first rule.
 use mathlib.Core.Path.{◌≡◌}
-use Prim.Native.Nat.{◌-◌, ◌≤◌}
+use Prim.Native.Nat.{◌≤◌}
 use lib.ListN.{length}
 use Rattle.grammar.specs.Content.{rules_of}
 use Rattle.rule_lists.specs.RuleLists.{Firsts}
@@ -8,6 +8,3 @@ use Rattle.rule_lists.proofs.list_firsts.Given as goal
 
 abbrev pub invariant-loop-a : goal.invariant-loop-a
 invariant-loop-a l = (l.a ≤ 64) × (length l.lists ≡ 192) × Firsts (rules_of l.g) l.a l.lists
-
-abbrev pub decreases-loop-a : goal.decreases-loop-a
-decreases-loop-a l = 64 - l.a

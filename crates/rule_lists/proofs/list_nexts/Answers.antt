@@ -2,6 +2,7 @@ use mathlib.Core.Path.{◌≡◌, sym, ◌∙◌, subst}
 use Prim.Native.Nat.{ℕ, ◌+◌}
 use native.Mathlib.Omega.{arith}
 use lib.ListN.{length, length-set}
+use Rattle.std.specs.Option.{unwrap_or}
 use Rattle.grammar.specs.Content.{rules_of}
 use Rattle.rule_lists.specs.RuleLists.{FirstOf, Nexts}
 use Rattle.grammar.specs.declared.Rule.{Rule}
@@ -24,12 +25,8 @@ offset_bounds-g-i c = omega (arith, c.requires.formed.few, c.loop-i-test.true)
 pub bounds-g-i : goal.bounds-g-i
 bounds-g-i c = omega (arith, c.requires.formed.few, c.loop-i-test.true)
 
-pub overflow_add-i : goal.overflow_add-i
-overflow_add-i c =
-    omega (arith, c.requires.formed.few, c.loop-i-test.true)
-
-pub rule_from-r-requires : goal.rule_from-r-requires
-rule_from-r-requires c =
+pub rule_from-requires : goal.rule_from-requires
+rule_from-requires c =
     (c.requires.formed, omega (arith, c.loop-i-test.true))
 
 pub overflow_add-lists : goal.overflow_add-lists
@@ -54,27 +51,18 @@ bounds-lists-i c = omega (
   c.loop-i.invariant.1,
 )
 
-pub overflow_add-i-in-loop-i : goal.overflow_add-i-in-loop-i
-overflow_add-i-in-loop-i c = omega (
-  arith,
-  c.requires.formed.few,
-  c.loop-i-test.true,
-)
-
-pub loop-i-smaller : goal.loop-i-smaller
-loop-i-smaller c = omega (arith, c.loop-i-test.true)
-
 pub loop-i-preserved : goal.loop-i-preserved
 loop-i-preserved c =
     let l = c.loop-i in
     let h = c.loop-i-test.true in
-    let r = c.rule_from-r.result in
-    let x = subst (λ (y : Rule). FirstOf (rules_of c.args.g) y.left (l.i + 1) r)
-    (sym (rule_read c.args.g l.i h)) c.rule_from-r.ensures in (
+    let r = c.unwrap_or-r.result in
+    let x = subst (λ (y : Rule). FirstOf (rules_of c.args.g) y.left (l.i + 1)
+    (unwrap_or c.rule_from.result 128)) (sym (rule_read c.args.g l.i h)) c.rule_from.ensures in (
       omega arith,
       length-set l.lists (64 + l.i) r ∙ l.invariant.1,
       firsts_kept l.i r l.invariant.2,
-      nexts_more r (omega (arith, h, l.invariant.1, c.requires.formed.few)) l.invariant.3 x,
+      nexts_more r (omega (arith, h, l.invariant.1, c.requires.formed.few)) l.invariant.3
+          (rw c.unwrap_or-r.ensures x),
     )
 
 pub shape_of-lists : goal.shape_of-lists

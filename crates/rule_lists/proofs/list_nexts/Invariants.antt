@@ -1,6 +1,6 @@
 -- The loop's invariant: the rules passed have the place of the next.
 use mathlib.Core.Path.{◌≡◌}
-use Prim.Native.Nat.{◌-◌, ◌≤◌}
+use Prim.Native.Nat.{◌≤◌}
 use lib.ListN.{length}
 use Rattle.grammar.specs.Content.{rules_of}
 use Rattle.rule_lists.specs.RuleLists.{Firsts, Nexts}
@@ -10,6 +10,3 @@ abbrev pub invariant-loop-i : goal.invariant-loop-i
 invariant-loop-i l =
     (l.i ≤ l.g.count) × (length l.lists ≡ 192) × Firsts (rules_of l.g) 64 l.lists
     × Nexts (rules_of l.g) l.i l.lists
-
-abbrev pub decreases-loop-i : goal.decreases-loop-i
-decreases-loop-i l = l.g.count - l.i

@@ -21,16 +21,6 @@ returns-then-r-a c = none_found c.loop-i.invariant.1
     c.loop-i.i c.loop-i-test.true)
     ∙ c.if-r-a.true)
 
-pub overflow_add-i : goal.overflow_add-i
-overflow_add-i c = omega (
-  arith,
-  c.loop-i-test.true,
-  c.requires.0.few,
-)
-
-pub loop-i-smaller : goal.loop-i-smaller
-loop-i-smaller c = omega (arith, c.loop-i-test.true)
-
 pub loop-i-preserved : goal.loop-i-preserved
 loop-i-preserved c = (
   omega (arith, c.loop-i-test.true),

@@ -7,9 +7,10 @@ use Rattle.tree_choices.proofs.LowLaws.{rank}
 use Rattle.grammar.specs.Sentences.{spelled}
 use Rattle.tree_choices.proofs.low_choice.Given as goal
 
-abbrev pub invariant-loop-q : goal.invariant-loop-q
-invariant-loop-q l =
-    (l.p ≤ 128) × (l.k ≤ 65) × Higher (rules_of l.g) (spelled l.s) l.hs l.a l.start l.len l.p l.k
+abbrev pub invariant-search : goal.invariant-search
+invariant-search l =
+    (l.from.rule ≤ 128) × (l.from.left ≤ 65)
+    × Higher (rules_of l.g) (spelled l.s) l.hs l.a l.start l.len l.from.rule l.from.left
 
-abbrev pub decreases-loop-q : goal.decreases-loop-q
-decreases-loop-q l = rank l.p l.k
+abbrev pub decreases-search : goal.decreases-search
+decreases-search l = rank l.from.rule l.from.left

@@ -1,34 +1,39 @@
 -- `preferred` meets its contract: without a loop the first choice, else the low one.
+use mathlib.Core.Path.{sym, ◌∙◌}
+use Rattle.std.proofs.lemmas.Bool.{eqb-true, eqb-false}
 use Rattle.sets.proofs.Basics.{not_zero}
+use Rattle.grammar.specs.Choices.{straight, looping}
+use Rattle.grammar.specs.Content.{rules_of}
 use Rattle.grammar.specs.SpanSheet.{part}
-use Rattle.tree_choices.proofs.PreferLaws.{first_pick, low_pick}
-use Rattle.tree_choices.proofs.PickLaws.{choice_small}
 use Rattle.grammar.specs.Sentences.{spelled}
+use Rattle.tree_choices.proofs.PickLaws.{choice_small, first_of_next, none_of_none}
+use Rattle.tree_choices.proofs.PickLaws.{next_some, next_at}
 use Rattle.tree_choices.proofs.preferred.Goals as goal
 
-pub next_choice-requires : goal.next_choice-requires
-next_choice-requires c = let r = c.requires.ready.0 in
-    record {
-      count_bound = (r.positioned.few, c.requires.ready.1);
-      formed = r.formed;
-      span_sheet = r.sheet;
-    }
+pub unwrap-requires : goal.unwrap-requires
+unwrap-requires c = next_some _ _ _ 0 0 c.next_choice.result c.next_choice.ensures
+    (none_of_none c.requires.has_choice)
 
-pub returns-then-hs-eq0 : goal.returns-then-hs-eq0
-returns-then-hs-eq0 c =
-    first_pick c.requires.has_choice (c.requires.ready.0.lent.flat c.if-hs-eq0.true)
-    c.next_choice.result c.next_choice.ensures
+pub returns-then-is_empty : goal.returns-then-is_empty
+returns-then-is_empty c =
+    let a = c.args in
+    let x = next_at (rules_of a.g) a.a (part (spelled a.s) a.start a.len) 0 0 _ _
+    c.next_choice.ensures c.unwrap.ensures in
+    straight (c.requires.ready.0.lent.flat
+    (eqb-true _ _ (sym c.is_empty.ensures ∙ c.if-is_empty.true)))
+    (first_of_next x)
 
-pub low_choice-requires : goal.low_choice-requires
-low_choice-requires c = let r = c.requires.ready.0 in
-    record {
-      ready = (r, c.requires.ready.1, choice_small r.formed c.requires.has_choice);
-      height_sheet = (r.lent.looping (not_zero _ c.if-hs-eq0.false)).1;
-      has_choice = c.requires.has_choice;
-    }
+pub low_choice-requires-clause-ready : goal.low_choice-requires-clause-ready
+low_choice-requires-clause-ready c =
+    let r = c.requires.ready.0 in
+    (r, c.requires.ready.1, choice_small r.formed c.requires.has_choice)
+
+pub low_choice-requires-clause-height_sheet : goal.low_choice-requires-clause-height_sheet
+low_choice-requires-clause-height_sheet c =
+    (c.requires.ready.0.lent.looping
+    (not_zero _ (eqb-false _ _ (sym c.is_empty.ensures ∙ c.if-is_empty.false)))).1
 
 pub returns : goal.returns
-returns c = let a = c.args in
-    low_pick a.a (part (spelled a.s) a.start a.len)
-    (c.requires.ready.0.lent.looping (not_zero _ c.if-hs-eq0.false)).0 c.low_choice.result
+returns c = looping (c.requires.ready.0.lent.looping
+    (not_zero _ (eqb-false _ _ (sym c.is_empty.ensures ∙ c.if-is_empty.false)))).0
     c.low_choice.ensures

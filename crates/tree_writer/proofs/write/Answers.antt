@@ -2,7 +2,7 @@ use mathlib.Core.Path.{refl}
 use native.Mathlib.Omega.{arith}
 use Rattle.rows.proofs.StepLaws.{kids_le}
 use Rattle.tree_writer.proofs.Turn.{running_start, running_over, running_done}
-use Rattle.tree_writer.proofs.Turn.{laid_none, popped, within, has_choice, chosen_kind}
+use Rattle.tree_writer.proofs.Turn.{laid_none, popped, within, has_choice}
 use Rattle.tree_writer.proofs.Turn.{chosen_split, chosen_turn, chosen_over}
 use Rattle.tree_writer.proofs.write.Goals as goal
 
@@ -32,18 +32,11 @@ look-st-requires c = record {
       (popped c.requires.ready c.loop-top.invariant c.loop-top-test.true);
 }
 
-pub kids-more-requires : goal.kids-more-requires
-kids-more-requires c = chosen_kind
-    (popped c.requires.ready c.loop-top.invariant c.loop-top-test.true)
-    c.requires.ready.formed.distinct c.look-st.ensures
-
 pub overflow_add-n : goal.overflow_add-n
 overflow_add-n c = omega (
   arith,
   c.kids-more.ensures,
-  kids_le c.look-st.result.kind (chosen_kind
-      (popped c.requires.ready c.loop-top.invariant c.loop-top-test.true)
-      c.requires.ready.formed.distinct c.look-st.ensures),
+  kids_le c.look-st.result.kind,
   c.loop-top.invariant.state.room,
   c.loop-top-test.true,
   c.well_formed,
@@ -72,8 +65,6 @@ overflow_add-top c = omega (arith, c.loop-top-test.true, c.well_formed)
 pub branch-top-requires : goal.branch-top-requires
 branch-top-requires c =
     record {
-      known = chosen_kind (popped c.requires.ready c.loop-top.invariant c.loop-top-test.true)
-          c.requires.ready.formed.distinct c.look-st.ensures;
       within = omega (
         arith,
         c.put-in-loop-top.auto.out,
@@ -109,7 +100,8 @@ loop-top-preserved c =
             c.if-top-n.false,
             c.kids-more.ensures,
           )) _ _ _
-          (rw c.start_of.ensures at c.put-in-loop-top.ensures) c.branch-top.ensures;
+          (rw (c.from-kind.ensures, c.start_of.ensures) at c.put-in-loop-top.ensures)
+          c.branch-top.ensures;
       same = omega (
         arith,
         c.branch-top.auto,
