@@ -2,7 +2,7 @@
 #![tactic(auto)]
 
 ghost use Rattle.std.specs.Prelude.{◌≡◌};
-ghost use Rattle.column_ranges.specs.Ranges.{columns as columnsOf};
+ghost use Rattle.column_ranges.specs.Ranges.{columns};
 ghost use Rattle.column_ranges.specs.RangeSentences.{ranges_of, EndsOrdered, Spread};
 ghost use Rattle.column_ranges.specs.RangeSentences.{CountsChoices};
 
@@ -27,7 +27,7 @@ pub struct RangeSentence {
 // How many columns the ends allow.
 pub fn columns(t: RangeToken) -> usize
     requires { EndsOrdered t }
-    ensures { result ≡ columnsOf t }
+    ensures { result ≡ columns t }
 {
     let low = t.low.0;
     let high = t.high.0;
@@ -40,9 +40,7 @@ pub fn count(r: RangeSentence) -> usize
     ensures { CountsChoices (ranges_of r) result }
 {
     let mut m: usize = 1;
-    let mut i = r.count;
-    while 0 < i {
-        i -= 1;
+    for i in (0..r.count).rev() {
         let t = r.tokens[i];
         m = m * columns(t);
         if 65536 < m {

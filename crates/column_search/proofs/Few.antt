@@ -5,14 +5,22 @@ use Prim.Native.Nat.{ℕ, ◌+◌, ◌≤◌, ◌<◌}
 use native.Mathlib.Omega.{arith}
 use native.Mathlib.Decide.{dec_lt}
 use lib.ListN.{length}
+use Rattle.std.specs.Prelude.{Option, Some, None}
+use Rattle.std.specs.Option.{unwrap_or}
 use Rattle.grammar.specs.Trees.{Rules}
 use Rattle.column_ranges.specs.declared.RangeSentence.{RangeSentence}
 use Rattle.column_ranges.specs.Ranges.{Ranges}
 use Rattle.column_ranges.specs.RangeSentences.{range, ranges_of, Spread}
-use Rattle.narrowing.specs.Narrowing.{SinglesFrom, SinglesBefore, Single, Narrows}
+use Rattle.narrowing.specs.Narrowing.{SinglesFrom, SinglesBefore, PicksFirst, Single, Narrows}
 use Rattle.narrowing.proofs.Choices.{fixed_rest}
 use Rattle.range_charts.specs.RangeCharts.{Behind}
 use Rattle.range_charts.proofs.Unmoved.{solved_later, solved_unmoved}
+
+-- before the first token with several columns, or before the end, each has one
+pub first_before : {rs : Ranges} (o : Option ℕ) (n : ℕ) {q : ℕ} → PicksFirst rs o
+    → q ≡ unwrap_or o n → SinglesBefore rs q
+first_before {rs} (Some p) n f e = subst (SinglesBefore rs) (sym e) f.1
+first_before None n f e = record { each = λ k h l. f.each k l }
 
 -- a token with several columns is not before `from`
 pub several_past : {rs : Ranges} {from t : ℕ} → SinglesBefore rs from → t < length rs

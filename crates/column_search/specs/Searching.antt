@@ -1,14 +1,13 @@
 -- What the search over narrowed ranges finds (inner: contracts of the functions that search).
-use Rattle.std.specs.Prelude.{◌≡◌, Bool, true, false, List, ◌⊎◌, ℕ, ◌*◌, ◌<◌, length}
+use Rattle.std.specs.Prelude.{◌≡◌, Bool, true, false, List, ◌⊎◌, ℕ, ◌*◌, Option, Some, None}
 use Rattle.grammar.specs.Trees.{Rules}
 use Rattle.sets.specs.Sets.{In}
 use Rattle.grammar.specs.SpanSheet.{pairs, first_word, second_word}
 use Rattle.grammar.specs.declared.Verdict.{Verdict}
 use Rattle.spans.specs.Changes.{Past}
 use Rattle.column_ranges.specs.Ranges.{Ranges, SomeChoiceGives}
-use Rattle.column_ranges.specs.RangeSentences.{range}
 use Rattle.range_charts.specs.RangeCharts.{Small}
-use Rattle.narrowing.specs.Narrowing.{MayRise}
+use Rattle.narrowing.specs.Narrowing.{MayRise, HasSeveral}
 use Rattle.column_search.specs.declared.Flags.{Flags}
 use Rattle.column_search.specs.Answers.{flag}
 
@@ -64,5 +63,6 @@ pub record Leaves (rs : Ranges) (f : Flags) (b : Bool) : Type 0 where
   pub stay : b ≡ false → MayRise rs
 
 -- p is a token with several columns, if it is one at all
-pub record Opens (rs : Ranges) (p : ℕ) : Type 0 where
-  pub several : p < length rs → (range rs p).low.0 < (range rs p).high.0
+abbrev pub Opens : Ranges → Option ℕ → Type 0
+Opens rs (Some p) = HasSeveral rs p
+Opens rs None = Unit {0}

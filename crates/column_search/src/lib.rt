@@ -41,21 +41,9 @@ fn with_verdict(f: Flags, v: Verdict) -> Flags
     ensures { With f v result }
 {
     match v {
-        Verdict::None => Flags {
-            none: true,
-            one: f.one,
-            two: f.two,
-        },
-        Verdict::One => Flags {
-            none: f.none,
-            one: true,
-            two: f.two,
-        },
-        Verdict::Two => Flags {
-            none: f.none,
-            one: f.one,
-            two: true,
-        },
+        Verdict::None => Flags { none: true, ..f },
+        Verdict::One => Flags { one: true, ..f },
+        Verdict::Two => Flags { two: true, ..f },
     }
 }
 
@@ -63,12 +51,7 @@ fn with_verdict(f: Flags, v: Verdict) -> Flags
 fn full(f: Flags) -> bool
     ensures { result ≡ true → (v : Verdict) → flag f v ≡ true }
 {
-    if f.none {
-        if f.one {
-            return f.two;
-        }
-    }
-    false
+    f.none && f.one && f.two
 }
 
 // The verdict by the pair of the whole word.
@@ -141,24 +124,11 @@ fn outlook(g: Grammar, r: RangeSentence, words: &mut [u64], kept: &mut [u64]) ->
     }
 }
 
-// Is b set where a is?
-fn implies(a: bool, b: bool) -> bool
-    ensures { result ≡ true → a ≡ true → b ≡ true }
-{
-    if a { b } else { true }
-}
-
 // Is each flag of o set in f?
 fn covered(o: Flags, f: Flags) -> bool
     ensures { result ≡ true → (v : Verdict) → flag o v ≡ true → flag f v ≡ true }
 {
-    if !implies(o.none, f.none) {
-        return false;
-    }
-    if !implies(o.one, f.one) {
-        return false;
-    }
-    implies(o.two, f.two)
+    (!o.none || f.none) && (!o.one || f.one) && (!o.two || f.two)
 }
 
 // Can nothing new come of the ranges, by what may and what must hold?
@@ -181,10 +151,7 @@ fn settled(r: RangeSentence, f: Flags) -> bool
     requires { Spread r }
     ensures { Leaves (ranges_of r) f result }
 {
-    if full(f) {
-        return true;
-    }
-    !may_rise(r)
+    full(f) || !may_rise(r)
 }
 
 // The verdicts of few choices, besides those found before. The last token with several columns goes
@@ -215,19 +182,15 @@ fn search_few(
     if settled(r, f) {
         return f;
     }
-    let t = last_token(r, to);
-    if r.count <= t {
+    let Some(t) = last_token(r, to) else {
         return try_choice(g, r, words, kept, f, from, to);
-    }
+    };
     fill_between(words, kept, r, g, from, t + 1, to);
-    let a = r.tokens[t];
-    let m = columns(a);
+    let m = columns(r.tokens[t]);
     let mut found = f;
-    let mut i: usize = 0;
-    while i < m {
+    for i in 0..m {
         let s = narrowed(r, t, i);
         found = search_few(g, s, words, kept, found, from, t + 1);
-        i += 1;
     }
     found
 }
@@ -244,19 +207,16 @@ fn search_rest(g: Grammar, r: RangeSentence, words: &mut [u64], kept: &mut [u64]
     ensures beside_2 { Beside (rules_of g) r.count words.new kept.new }
 {
     fill_ranges(words, kept, r, g);
-    let from = first_token(r);
+    let from = first_token(r).unwrap_or(r.count);
     search_few(g, r, words, kept, f, from, r.count)
 }
 
-// The token to narrow next, where 64 choices or more are left; else the number of tokens.
-fn next_of_many(r: RangeSentence) -> usize
+// The token to narrow next, if 64 choices or more are left.
+fn next_of_many(r: RangeSentence) -> Option<usize>
     requires { Spread r }
     ensures { Opens (ranges_of r) result }
 {
-    if count(r) < 64 {
-        return r.count;
-    }
-    next_token(r)
+    if count(r) < 64 { None } else { next_token(r) }
 }
 
 // The verdicts of all choices, besides those found before. A token with several columns goes
@@ -274,27 +234,23 @@ fn search(g: Grammar, r: RangeSentence, words: &mut [u64], kept: &mut [u64], f: 
     if settled(r, f) {
         return f;
     }
-    let t = next_of_many(r);
-    if r.count <= t {
+    let Some(t) = next_of_many(r) else {
         return search_rest(g, r, words, kept, f);
-    }
+    };
     if nothing_new(g, r, words, kept, f) {
         return f;
     }
-    let a = r.tokens[t];
-    let m = columns(a);
+    let m = columns(r.tokens[t]);
     let mut found = f;
-    let mut c: usize = 0;
-    while c < m {
+    for c in 0..m {
         let s = narrowed(r, t, c);
         found = search(g, s, words, kept, found);
-        c += 1;
     }
     found
 }
 
 // Write the pairs of the empty word and of each token of the draft, which do not go by columns.
-fn put_leaves(g: Grammar, d: Draft, words: &mut [u64], kept: &mut [u64])
+fn put_leaves(g: Grammar, d: Draft<64>, words: &mut [u64], kept: &mut [u64])
     requires count_bound { d.count ≤ 64 }
     requires count_in_bounds { 2 * pairs d.count ≤ length words.old }
     requires formed { Formed g }
@@ -306,11 +262,9 @@ fn put_leaves(g: Grammar, d: Draft, words: &mut [u64], kept: &mut [u64])
     let n = d.count;
     let e: Pair = empty_pair(g);
     put_empty(words, kept, g, n, e.one, e.two);
-    let mut i: usize = 0;
-    while i < n {
+    for i in 0..n {
         let l = leaf_at(words, d, g, e, i);
         put_leaf(words, kept, g, n, i, l.one, l.two);
-        i += 1;
     }
 }
 

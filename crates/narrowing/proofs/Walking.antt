@@ -8,6 +8,7 @@ use native.Mathlib.Omega.{arith}
 use native.Mathlib.Decide.{ℕ_discrete}
 use lib.ListN.{length, get_or, take, set, length-set}
 use lib.Seq.{length-take-le, get_or-take, get_or-set_same, get_or-set_other, ext_get_or}
+use Rattle.std.specs.Prelude.{Option, Some, None, IfSome}
 use Rattle.sets.specs.Says.{Says}
 use Rattle.grammar.specs.declared.Token.{Token}
 use Rattle.grammar.specs.Layout.{Every}
@@ -21,163 +22,121 @@ use Rattle.column_ranges.specs.declared.RangeSentence.{RangeSentence}
 use Rattle.column_ranges.specs.Ranges.{Ranges, columns}
 use Rattle.column_ranges.specs.RangeSentences.{range, ranges_of, no_range, EndsOrdered, Spread}
 use Rattle.column_ranges.proofs.Counting.{range_read, ended_at}
-use Rattle.narrowing.specs.Narrowing.{low_token, high_token, lowest, Single, MayRise, Picks}
-use Rattle.narrowing.specs.Narrowing.{SinglesFrom, SinglesBefore, PicksLast, fixed, Narrows}
+use Rattle.narrowing.specs.Narrowing.{low_token, high_token, lowest, Single, Singles, MayRise}
+use Rattle.narrowing.specs.Narrowing.{SinglesFrom, SinglesBefore, HasSeveral, Picks, fixed, Narrows}
 use Rattle.narrowing.proofs.Choices.{lowest_long, lowest_at}
 
 -- ---- rising
 
--- so the first k tokens and the one after them may rise
+-- so the first k tokens may rise
 pub record RoseTo (rs : Ranges) (k : ℕ) : Type 0 where
-  pub each : (j : ℕ) → j < k → j + 1 < length rs
+  pub each : (j : ℕ) → j + 1 < k → j + 1 < length rs
       → After (low_token (range rs j)) (high_token (range rs (j + 1)))
 
-pub rose_none : {rs : Ranges} → RoseTo rs 0
-rose_none = record { each = λ j h l. absurd (omega arith) }
+pub rose_one : {rs : Ranges} → RoseTo rs 1
+rose_one = record { each = λ j h l. absurd (omega arith) }
 
-pub rose_more : {rs : Ranges} (k : ℕ) → RoseTo rs k
-    → After (low_token (range rs k)) (high_token (range rs (k + 1))) → RoseTo rs (k + 1)
-rose_more {rs} k r a = record { each = λ j h l. go j h l (ℕ_discrete j k) }
+pub rose_more : {rs : Ranges} (k : ℕ) → 0 < k → RoseTo rs k
+    → After (low_token (range rs (k - 1))) (high_token (range rs k)) → RoseTo rs (k + 1)
+rose_more {rs} k p r a = record { each = λ j h l. go j h l (ℕ_discrete j (k - 1)) }
   where
-    go : (j : ℕ) → j < k + 1 → j + 1 < length rs → Dec (j ≡ k)
+    go : (j : ℕ) → j + 1 < k + 1 → j + 1 < length rs → Dec (j ≡ k - 1)
         → After (low_token (range rs j)) (high_token (range rs (j + 1)))
     go j h l (yes e) =
-        subst (λ (i : ℕ). After (low_token (range rs i)) (high_token (range rs (i + 1)))) (sym e) a
+        let d : j + 1 ≡ k = omega arith in
+        subst₂ (λ (i m : ℕ). After (low_token (range rs i)) (high_token (range rs m))) (sym e)
+        (sym d) a
     go j h l (no n) = r.each j (omega arith) l
 
-pub rose_all : {rs : Ranges} (k : ℕ) → length rs ≤ k + 1 → RoseTo rs k → MayRise rs
+pub rose_all : {rs : Ranges} (k : ℕ) → length rs ≤ k → RoseTo rs k → MayRise rs
 rose_all k h r = record { each = λ j l. r.each j (omega arith) l }
 
+-- so the token at k comes after the one before
+pub rises_at : {rs : Ranges} {k : ℕ} → 0 < k → k < length rs → MayRise rs
+    → After (low_token (range rs (k - 1))) (high_token (range rs k))
+rises_at {rs} {k} p l m =
+    let d : k - 1 + 1 ≡ k = omega arith in
+    subst (λ (i : ℕ). After (low_token (range rs (k - 1))) (high_token (range rs i))) d
+    (m.each (k - 1) (omega arith))
+
 -- what the test of two tokens says
-pub after_read : {b : Bool} {a c : Token} (r : RangeSentence) (k : ℕ) → k + 1 < r.count
-    → b ≡ after a c → a ≡ low_token (get_or r.tokens k no_range)
-    → c ≡ high_token (get_or r.tokens (k + 1) no_range)
-    → Says b (After (low_token (range (ranges_of r) k))
-    (high_token (range (ranges_of r) (k + 1))))
-after_read {b} {a} {c} r k h e p q =
+pub after_read : {b : Bool} {a c : Token} (r : RangeSentence) (k : ℕ) → 0 < k → k < r.count
+    → b ≡ after a c → a ≡ low_token (get_or r.tokens (k - 1) no_range)
+    → c ≡ high_token (get_or r.tokens k no_range)
+    → Says b (After (low_token (range (ranges_of r) (k - 1))) (high_token (range (ranges_of r) k)))
+after_read {b} {a} {c} r k l h e p q =
     subst₂ (λ (u v : Token). Says b (After u v))
-    (p ∙ ap low_token (sym (range_read r k (omega arith))))
-    (q ∙ ap high_token (sym (range_read r (k + 1) h)))
+    (p ∙ ap low_token (sym (range_read r (k - 1) (omega arith))))
+    (q ∙ ap high_token (sym (range_read r k h)))
     (subst (λ (z : Bool). Says z (After a c)) (sym e) (after_says a c))
 
 -- ---- a token with several columns
 
--- of the first k tokens `best` has several columns, or none has and it is n
-pub record Seeking (rs : Ranges) (n best k : ℕ) : Type 0 where
-  pub fits : k ≤ n
-  pub several : best < n → (range rs best).low.0 < (range rs best).high.0
-  pub absent : n ≤ best → (j : ℕ) → j < k → Single (range rs j)
-
-pub seeking_none : {rs : Ranges} {n : ℕ} → Seeking rs n n 0
-seeking_none = record {
-  fits = omega arith;
-  several = λ h. absurd (omega arith);
-  absent = λ h j l.
-      absurd (omega arith);
-}
-
-module _ {r : RangeSentence} (p : Spread r) {best k m : ℕ} (h : k < r.count)
-    (e : m ≡ columns (get_or r.tokens k no_range))
-    (s : Seeking (ranges_of r) r.count best k) where
-  apart : range (ranges_of r) k ≡ get_or r.tokens k no_range
-  apart = range_read r k h
-
-  pub seeking_pick : {q : ℕ} → (m < 2 → ⊥) → (q ≡ k) ⊎ ((q ≡ best) × (best < r.count))
-      → Seeking (ranges_of r) r.count q (k + 1)
-  seeking_pick {q} l w =
-      record { fits = omega arith; several = λ x. go w; absent = λ x. absurd (out x w) }
-    where
-      here : (range (ranges_of r) k).low.0 < (range (ranges_of r) k).high.0
-      here = subst (λ (t : RangeToken). t.low.0 < t.high.0) (sym apart) (omega (arith, e))
-
-      go : (q ≡ k) ⊎ ((q ≡ best) × (best < r.count))
-          → (range (ranges_of r) q).low.0 < (range (ranges_of r) q).high.0
-      go (inl d) = subst (λ (i : ℕ). (range (ranges_of r) i).low.0 < (range (ranges_of r) i).high.0)
-          (sym d) here
-      go (inr d) = subst (λ (i : ℕ). (range (ranges_of r) i).low.0 < (range (ranges_of r) i).high.0)
-          (sym d.0) (s.several d.1)
-
-      out : r.count ≤ q → (q ≡ k) ⊎ ((q ≡ best) × (best < r.count)) → ⊥
-      out x (inl d) = omega arith
-      out x (inr d) = omega (arith, d.0, d.1)
-
--- a token with fewer than two columns has one
-pub single_here : (r : RangeSentence) (j : ℕ) → Spread r → j < r.count
-    → columns (get_or r.tokens j no_range) < 2
-    → (range (ranges_of r) j).low.0 ≡ (range (ranges_of r) j).high.0
-single_here r j p h l =
-    subst Single (sym (range_read r j h)) (omega (arith, (ended_at p j h).ordered))
-
-pub seeking_all : {r : RangeSentence} {best k : ℕ} → Spread r → r.count ≤ k
-    → Seeking (ranges_of r) r.count best k → Picks (ranges_of r) best
-seeking_all {r} p h s = record {
-  several = λ x. s.several (omega (arith, p.whole));
-  absent = λ x. record {
-    each = λ j l. s.absent (omega (arith, p.whole)) j (omega (arith, p.whole));
-  };
-}
-
--- the last such token is looked for from behind
-
-pub record Backward (rs : Ranges) (to k : ℕ) : Type 0 where
-  pub fits : k ≤ to
-  pub single : SinglesFrom rs k
-
-module _ {r : RangeSentence} (p : Spread r) {to j k m : ℕ} (fit : to ≤ r.count) (h : 0 < j)
-    (d : k ≡ j - 1) (e : m ≡ columns (get_or r.tokens k no_range))
-    (b : Backward (ranges_of r) to j) where
+module _ {r : RangeSentence} (p : Spread r) {k m : ℕ} (h : k < r.count)
+    (e : m ≡ columns (get_or r.tokens k no_range)) where
   here : range (ranges_of r) k ≡ get_or r.tokens k no_range
-  here = range_read r k (omega (arith, b.fits))
+  here = range_read r k h
 
-  pub backward_more : (1 < m → ⊥) → Backward (ranges_of r) to k
-  backward_more l = record {
-    fits = omega (arith, b.fits);
-    single = record { each = λ i x y. go i x y (ℕ_discrete i k) };
-  }
-    where
-      single : Single (range (ranges_of r) k)
-      single = subst Single (sym here)
-          (omega (arith, e, (ended_at p k (omega (arith, b.fits))).ordered))
-
-      go : (i : ℕ) → k ≤ i → i < length (ranges_of r) → Dec (i ≡ k) → Single (range (ranges_of r) i)
-      go i x y (yes q) = subst (λ (i : ℕ). Single (range (ranges_of r) i)) (sym q) single
-      go i x y (no q) = b.single.each i (omega arith) y
-
-  pub backward_found : 1 < m → PicksLast (ranges_of r) to k
-  backward_found l = record {
-    before = λ x. omega (arith, b.fits);
-    several = λ x. subst (λ (t : RangeToken). t.low.0 < t.high.0) (sym here)
-        (omega (arith, e));
-    behind = λ x. record { each = λ i y z. b.single.each i (omega arith) z };
-    absent = λ x. absurd (omega (arith, p.whole, b.fits));
+  -- a token with more than one column has several
+  pub several_here : 1 < m → HasSeveral (ranges_of r) k
+  several_here l = record {
+    here = omega (arith, p.whole);
+    several = subst (λ (t : RangeToken). t.low.0 < t.high.0) (sym here) (omega (arith, e));
   }
 
-pub backward_all : {r : RangeSentence} {to k : ℕ} → Spread r → k ≡ 0
-    → Backward (ranges_of r) to k → PicksLast (ranges_of r) to r.count
-backward_all p e b = record {
-  before = λ x. absurd (omega (arith, p.whole));
-  several = λ x. absurd (omega (arith, p.whole));
-  behind = λ x. absurd (omega (arith, p.whole));
-  absent = λ x. record { each = λ i y. b.single.each i (omega arith) y };
-}
+  -- one with no more has one
+  pub single_here : (1 < m → ⊥) → Single (range (ranges_of r) k)
+  single_here l = subst Single (sym here) (omega (arith, e, (ended_at p k h).ordered))
 
--- the first such token is looked for from the front
+-- of the first k tokens `best` has several columns, or none has
+abbrev pub Seeking : Ranges → Option ℕ → ℕ → Type 0
+Seeking rs (Some p) k = HasSeveral rs p
+Seeking rs None k = SinglesBefore rs k
 
 pub singles_none : {rs : Ranges} → SinglesBefore rs 0
 singles_none = record { each = λ i h l. absurd (omega arith) }
 
-pub singles_more : {r : RangeSentence} {k m : ℕ} → Spread r → k < r.count
-    → m ≡ columns (get_or r.tokens k no_range) → (1 < m → ⊥) → SinglesBefore (ranges_of r) k
-    → SinglesBefore (ranges_of r) (k + 1)
-singles_more {r} {k} {m} p h e l f = record { each = λ i x y. go i x y (ℕ_discrete i k) }
+pub singles_more : {rs : Ranges} {k : ℕ} → Single (range rs k) → SinglesBefore rs k
+    → SinglesBefore rs (k + 1)
+singles_more {rs} {k} s f = record { each = λ i x y. go i x y (ℕ_discrete i k) }
   where
-    single : Single (range (ranges_of r) k)
-    single = subst Single (sym (range_read r k h)) (omega (arith, e, (ended_at p k h).ordered))
-
-    go : (i : ℕ) → i < k + 1 → i < length (ranges_of r) → Dec (i ≡ k)
-        → Single (range (ranges_of r) i)
-    go i x y (yes q) = subst (λ (i : ℕ). Single (range (ranges_of r) i)) (sym q) single
+    go : (i : ℕ) → i < k + 1 → i < length rs → Dec (i ≡ k) → Single (range rs i)
+    go i x y (yes q) = subst (λ (i : ℕ). Single (range rs i)) (sym q) s
     go i x y (no q) = f.each i (omega arith) y
+
+pub singles_all : {rs : Ranges} {k : ℕ} → length rs ≤ k → SinglesBefore rs k → Singles rs
+singles_all h f = record { each = λ j l. f.each j (omega arith) l }
+
+module _ {r : RangeSentence} (p : Spread r) where
+  pub seeking_low : (best : Option ℕ) (k : ℕ) → Seeking (ranges_of r) best k
+      → IfSome best (λ b. b < r.count)
+  seeking_low (Some b) k s = omega (arith, s.here, p.whole)
+  seeking_low None k s = tt
+
+  pub seeking_pick : (best : Option ℕ) (k q : ℕ) → HasSeveral (ranges_of r) k
+      → (q ≡ k) ⊎ (best ≡ Some q) → Seeking (ranges_of r) best k → HasSeveral (ranges_of r) q
+  seeking_pick best k q l (inl d) s = subst (HasSeveral (ranges_of r)) (sym d) l
+  seeking_pick best k q l (inr d) s =
+      let z : Seeking (ranges_of r) (Some q) k = rw d at s in z
+
+  pub seeking_pass : (best : Option ℕ) (k : ℕ) → Single (range (ranges_of r) k)
+      → Seeking (ranges_of r) best k → Seeking (ranges_of r) best (k + 1)
+  seeking_pass (Some b) k l s = s
+  seeking_pass None k l s = singles_more l s
+
+  pub seeking_all : (best : Option ℕ) (k : ℕ) → r.count ≤ k → Seeking (ranges_of r) best k
+      → Picks (ranges_of r) best
+  seeking_all (Some b) k h s = s
+  seeking_all None k h s = singles_all (omega (arith, p.whole)) s
+
+-- the last such token is looked for from behind
+pub singles_behind : {rs : Ranges} {j : ℕ} → 0 < j → Single (range rs (j - 1)) → SinglesFrom rs j
+    → SinglesFrom rs (j - 1)
+singles_behind {rs} {j} h s b = record { each = λ i x y. go i x y (ℕ_discrete i (j - 1)) }
+  where
+    go : (i : ℕ) → j - 1 ≤ i → i < length rs → Dec (i ≡ j - 1) → Single (range rs i)
+    go i x y (yes q) = subst (λ (i : ℕ). Single (range rs i)) (sym q) s
+    go i x y (no q) = b.each i (omega arith) y
 
 -- ---- a token put into a column
 

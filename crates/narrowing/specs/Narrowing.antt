@@ -1,5 +1,5 @@
 -- Ranges that are narrowed, a token at a time (inner: contracts of the functions that narrow them).
-use Rattle.std.specs.Prelude.{◌≡◌, [], ◌∷◌, ℕ, ◌+◌, ◌≤◌, ◌<◌, length, set}
+use Rattle.std.specs.Prelude.{◌≡◌, [], ◌∷◌, ℕ, ◌+◌, ◌≤◌, ◌<◌, length, set, Option, Some, None}
 use Rattle.grammar.specs.declared.Token.{Token}
 use Rattle.grammar.specs.Layout.{Word}
 use Rattle.grammar.specs.Candidates.{After}
@@ -51,18 +51,31 @@ pub record MayRise (rs : Ranges) : Type 0 where
   pub each : (k : ℕ) → k + 1 < length rs
       → After (low_token (range rs k)) (high_token (range rs (k + 1)))
 
--- p is a token with several columns; where there is none, it is past the last
-pub record Picks (rs : Ranges) (p : ℕ) : Type 0 where
-  pub several : p < length rs → (range rs p).low.0 < (range rs p).high.0
-  pub absent : length rs ≤ p → Singles rs
+-- p is a token with several columns
+pub record HasSeveral (rs : Ranges) (p : ℕ) : Type 0 where
+  pub here : p < length rs
+  pub several : (range rs p).low.0 < (range rs p).high.0
 
--- p is the last token with several columns, which stands before `to`; where there is none, it is
--- past the last
-pub record PicksLast (rs : Ranges) (to p : ℕ) : Type 0 where
-  pub before : p < length rs → p < to
-  pub several : p < length rs → (range rs p).low.0 < (range rs p).high.0
-  pub behind : p < length rs → SinglesFrom rs (p + 1)
-  pub absent : length rs ≤ p → Singles rs
+-- a token with several columns, if there is one
+abbrev pub Picks : Ranges → Option ℕ → Type 0
+Picks rs (Some p) = HasSeveral rs p
+Picks rs None = Singles rs
+
+-- p is the last token with several columns, which stands before `to`
+pub record LastSeveral (rs : Ranges) (to p : ℕ) : Type 0 where
+  pub one : HasSeveral rs p
+  pub before : p < to
+  pub behind : SinglesFrom rs (p + 1)
+
+-- the last token with several columns, if there is one
+abbrev pub PicksLast : Ranges → ℕ → Option ℕ → Type 0
+PicksLast rs to (Some p) = LastSeveral rs to p
+PicksLast rs to None = Singles rs
+
+-- the first token with several columns, if there is one
+abbrev pub PicksFirst : Ranges → Option ℕ → Type 0
+PicksFirst rs (Some p) = HasSeveral rs p × SinglesBefore rs p
+PicksFirst rs None = Singles rs
 
 -- r in the column x alone
 abbrev pub fixed : RangeToken → ℕ → RangeToken

@@ -1,13 +1,13 @@
 // Ranges that are narrowed, a token at a time, until one choice of columns is left.
 #![tactic(auto)]
 
-ghost use Rattle.std.specs.Prelude.{◌≡◌, ◌⊎◌, ◌≤◌, ◌<◌, length};
+ghost use Rattle.std.specs.Prelude.{◌≡◌, ◌⊎◌, ◌≤◌, ◌<◌, length, Some, IfSome};
 ghost use Rattle.sets.specs.Says.{Says};
 ghost use Rattle.grammar.specs.Sentences.{spelled};
 ghost use Rattle.column_ranges.specs.Ranges.{columns as columnsOf};
 ghost use Rattle.column_ranges.specs.RangeSentences.{range, ranges_of, Spread};
 ghost use Rattle.narrowing.specs.Narrowing.{standing, low_token, high_token, lowest, MayRise};
-ghost use Rattle.narrowing.specs.Narrowing.{Picks, SinglesFrom, SinglesBefore, PicksLast};
+ghost use Rattle.narrowing.specs.Narrowing.{Picks, SinglesFrom, PicksFirst, PicksLast};
 ghost use Rattle.narrowing.specs.Narrowing.{Narrows};
 
 use column_ranges::{RangeSentence, RangeToken, columns};
@@ -49,15 +49,12 @@ pub fn may_rise(r: RangeSentence) -> bool
     requires { Spread r }
     ensures { Says result (MayRise (ranges_of r)) }
 {
-    let n = r.count;
-    let mut k: usize = 0;
-    while k + 1 < n {
-        let a = low_token(r.tokens[k]);
-        let b = high_token(r.tokens[k + 1]);
+    for k in 1..r.count {
+        let a = low_token(r.tokens[k - 1]);
+        let b = high_token(r.tokens[k]);
         if !comes_after(a, b) {
             return false;
         }
-        k += 1;
     }
     true
 }
@@ -69,76 +66,68 @@ fn spans_over(n: usize, k: usize) -> usize
     (k + 1) * (n - k)
 }
 
-// Of `best`, if there is one below n, and k, the one in more spans.
-fn wider(n: usize, best: usize, k: usize) -> usize
-    requires { (n < 65) × (k < n) }
-    ensures { (result ≡ k) ⊎ ((result ≡ best) × (best < n)) }
+// Of `best`, if there is one, and k, the one in more spans.
+fn wider(n: usize, best: Option<usize>, k: usize) -> usize
+    requires { (n < 65) × (k < n) × IfSome best (λ b. b < n) }
+    ensures { (result ≡ k) ⊎ (best ≡ Some result) }
 {
-    if n <= best {
-        return k;
+    match best {
+        None => k,
+        Some(b) => {
+            if spans_over(n, b) < spans_over(n, k) {
+                k
+            } else {
+                b
+            }
+        }
     }
-    if spans_over(n, best) < spans_over(n, k) {
-        return k;
-    }
-    best
 }
 
+// So many columns are several.
+const SEVERAL: usize = 2;
+
 // The token to narrow next, of those with several columns: the one in most spans, so that the one
-// in the fewest is narrowed last and moves from choice to choice. Where each has one column, the
-// number of tokens.
-#[tactic(auto, using(crate::proofs::Walking::single_here))]
-pub fn next_token(r: RangeSentence) -> usize
+// in the fewest is narrowed last and moves from choice to choice.
+pub fn next_token(r: RangeSentence) -> Option<usize>
     requires { Spread r }
     ensures { Picks (ranges_of r) result }
 {
     let n = r.count;
-    let mut best = n;
-    let mut k: usize = 0;
-    while k < n {
-        let t = r.tokens[k];
-        if columns(t) < 2 {
-            k += 1;
+    let mut best = None;
+    for k in 0..n {
+        if columns(r.tokens[k]) < SEVERAL {
             continue;
         }
-        best = wider(n, best, k);
-        k += 1;
+        best = Some(wider(n, best, k));
     }
     best
 }
 
-// The last token with several columns, which stands before `to`. Where each has one column, the
-// number of tokens.
-pub fn last_token(r: RangeSentence, to: usize) -> usize
+// The last token with several columns, which stands before `to`.
+pub fn last_token(r: RangeSentence, to: usize) -> Option<usize>
     requires spread { Spread r × (to ≤ r.count) }
     requires singles_from { SinglesFrom (ranges_of r) to }
     ensures { PicksLast (ranges_of r) to result }
 {
-    let mut k = to;
-    while 0 < k {
-        k -= 1;
-        let t = r.tokens[k];
-        if 1 < columns(t) {
-            return k;
+    for k in (0..to).rev() {
+        if 1 < columns(r.tokens[k]) {
+            return Some(k);
         }
     }
-    r.count
+    None
 }
 
-// The first token with several columns. Where each has one column, the number of tokens.
-pub fn first_token(r: RangeSentence) -> usize
+// The first token with several columns.
+pub fn first_token(r: RangeSentence) -> Option<usize>
     requires { Spread r }
-    ensures { SinglesBefore (ranges_of r) result }
+    ensures { PicksFirst (ranges_of r) result }
 {
-    let n = r.count;
-    let mut k: usize = 0;
-    while k < n {
-        let t = r.tokens[k];
-        if 1 < columns(t) {
-            return k;
+    for k in 0..r.count {
+        if 1 < columns(r.tokens[k]) {
+            return Some(k);
         }
-        k += 1;
     }
-    n
+    None
 }
 
 // The ranges with the token at t in the column that stands c past its lower end.
@@ -179,10 +168,8 @@ pub fn lowest_sentence(r: RangeSentence) -> Sentence
     ensures { (result.count ≡ r.count) × (spelled result ≡ lowest (ranges_of r)) }
 {
     let mut tokens = no_tokens();
-    let mut i: usize = 0;
-    while i < r.count {
+    for i in 0..r.count {
         tokens[i] = low_token(r.tokens[i]);
-        i += 1;
     }
     let count = r.count;
     Sentence { tokens, count }

@@ -16,6 +16,7 @@ use refilling::close;
 
 // Settle the spans of two tokens or more that begin at `start` and end past `from`. Their marks are
 // carried along, a token at a time.
+// Kept: beside those of filling and refilling, as they share the loop's head and nothing else.
 fn fill_start(
     words: &mut [u64],
     kept: &mut [u64],
@@ -36,17 +37,15 @@ fn fill_start(
     let n = r.count;
     let a = r.tokens[start];
     let mut k = first_of(a);
-    let mut len: usize = 1;
-    while start + len < n {
+    for len in 1..n - start {
         let at = start + len;
         let z = r.tokens[at - 1];
         let t = r.tokens[at];
         k = stretched(k, a, z, t, len);
-        len += 1;
-        if start + len <= from {
+        if at < from {
             continue;
         }
-        close(words, kept, g, n, k, start, len);
+        close(words, kept, g, n, k, start, len + 1);
     }
 }
 
@@ -70,9 +69,7 @@ pub fn fill_between(
         r.count from lo }
     ensures beside { Beside (rules_of g) r.count words.new kept.new }
 {
-    let mut start = to;
-    while lo < start {
-        start -= 1;
+    for start in (lo..to).rev() {
         fill_start(words, kept, r, g, from, start);
     }
 }

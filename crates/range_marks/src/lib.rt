@@ -5,45 +5,27 @@
 
 ghost use Rattle.std.specs.Prelude.{◌≡◌, ◌≤◌, ◌<◌, length};
 ghost use Rattle.sets.specs.Says.{Says};
-ghost use Rattle.marks.specs.Marked.{Included};
 ghost use Rattle.column_ranges.specs.RangeSentences.{ranges_of};
 ghost use Rattle.range_marks.specs.RangeMarks.{Overlap, first_of, Stretched, exchanged};
 ghost use Rattle.range_marks.specs.RangeMarks.{exchanged_all};
 
 use column_ranges::{RangeSentence, RangeToken};
 use grammar::column_before;
-use marks::{SpanMarks, first_marks, with_next};
+use marks::{SpanMarks, first_marks, included, with_next};
 use narrowing::{high_token, low_token};
-use sets::with;
 
 // The marks of one token.
 pub fn first_of(t: RangeToken) -> SpanMarks
     ensures { result ≡ first_of t }
 {
-    let c = t.low;
-    first_marks(t.terminal, c)
+    first_marks(t.terminal, t.low)
 }
 
 // Is a column within the ends of both?
 fn overlap(a: RangeToken, b: RangeToken) -> bool
     ensures { Says result (Overlap a b) }
 {
-    let la = a.low;
-    let lb = b.low;
-    let ha = a.high;
-    let hb = b.high;
-    if column_before(hb, la) {
-        return false;
-    }
-    if column_before(ha, lb) { false } else { true }
-}
-
-// The set, with `l` besides if `yes` says so.
-fn listed(set: u64, l: usize, yes: bool) -> u64
-    requires { l < 64 }
-    ensures { Included set l yes result }
-{
-    if yes { with(set, l as u8) } else { set }
+    !column_before(b.high, a.low) && !column_before(a.high, b.low)
 }
 
 // The marks of `left` tokens from `a` to `z`, with the token `t` after them: the first token in its
@@ -62,17 +44,9 @@ pub fn stretched(
     let y = high_token(z);
     let v = high_token(t);
     let m = with_next(k, x, y, v, left, 0, 1);
-    let yes = overlap(a, t);
-    let align = listed(k.align, left, yes);
-    let first = m.first;
-    let least = m.least;
     SpanMarks {
-        first,
-        least,
-        single: m.single,
-        align,
-        indent: m.indent,
-        terminal: m.terminal,
+        align: included(k.align, left, overlap(a, t)),
+        ..m
     }
 }
 
@@ -80,14 +54,10 @@ pub fn stretched(
 fn exchange(t: RangeToken) -> RangeToken
     ensures { result ≡ exchanged t }
 {
-    let line = t.line;
-    let low = t.high;
-    let high = t.low;
     RangeToken {
-        terminal: t.terminal,
-        line,
-        low,
-        high,
+        low: t.high,
+        high: t.low,
+        ..t
     }
 }
 
@@ -97,11 +67,8 @@ pub fn exchanged_ends(r: RangeSentence) -> RangeSentence
     ensures { (result.count ≡ r.count) × (ranges_of result ≡ exchanged_all (ranges_of r)) }
 {
     let mut tokens = r.tokens;
-    let mut i: usize = 0;
-    while i < r.count {
+    for i in 0..r.count {
         tokens[i] = exchange(r.tokens[i]);
-        i += 1;
     }
-    let count = r.count;
-    RangeSentence { tokens, count }
+    RangeSentence { tokens, ..r }
 }

@@ -7,15 +7,15 @@ use Rattle.sheets.specs.Items.{items_from}
 use Rattle.sheets.specs.Items.{with_names}
 use Rattle.column_ranges.specs.declared.RangeToken.{RangeToken}
 use Rattle.column_ranges.specs.Ranges.{Ranges, choice_count, choice_limit}
-use Rattle.range_sheets.specs.declared.RangeLine.{RangeLine}
+use Rattle.std.specs.Prelude.{Result, Ok, Err}
+use Rattle.sheets.specs.declared.Fault.{Fault}
+use Rattle.sheets.specs.Refusals.{number_of}
 use Rattle.range_sheets.specs.RangeLines.{range_line}
 
 -- 12, 13, 48; 15 is not given
-abbrev pub range_said_of : RangeLine → Step RangeToken
-range_said_of RangeLine.Form = stop 12
-range_said_of RangeLine.Range = stop 13
-range_said_of RangeLine.Ends = stop 48
-range_said_of (RangeLine.Good r) = next r
+abbrev pub range_said_of : Result RangeToken Fault → Step RangeToken
+range_said_of (Ok r) = next r
+range_said_of (Err f) = stop (number_of f)
 
 abbrev pub range_says : Ranges → List ℕ → Step RangeToken
 range_says seen line = range_said_of (range_line line)

@@ -27,28 +27,31 @@ returns-then-nothing_new t c = record {
 }
 
 pub bounds-r-t : goal.bounds-r-t
-bounds-r-t t c = omega (arith, c.if-r-t.false, c.requires.spread.few)
+bounds-r-t t c =
+    omega (arith, c.in-Some.ensures.here, c.requires.spread.few, c.requires.spread.whole)
 
 pub columns-m-requires : goal.columns-m-requires
 columns-m-requires t c =
-    ended_at c.requires.spread c.next_of_many-t.result (omega (arith, c.if-r-t.false))
+    ended_at c.requires.spread c.in-Some.t
+    (omega (arith, c.in-Some.ensures.here, c.requires.spread.whole))
 
 pub loop-c-init : goal.loop-c-init
 loop-c-init t c = (
-  turn_none c.requires.spread (omega (arith, c.if-r-t.false)),
+  turn_none c.requires.spread (omega (arith, c.in-Some.ensures.here, c.requires.spread.whole)),
   c.nothing_new.ensures.beside_2,
 )
 
 pub narrowed-s-requires : goal.narrowed-s-requires
 narrowed-s-requires t c =
-    let h : c.next_of_many-t.result < c.args.r.count = omega (arith, c.if-r-t.false) in
+    let h : c.in-Some.t < c.args.r.count =
+    omega (arith, c.in-Some.ensures.here, c.requires.spread.whole) in
     record {
       spread = (c.requires.spread, h);
       c_bound = omega (
         arith,
         c.loop-c-test.true,
         c.columns-m.ensures,
-        ap columns (range_read c.args.r c.next_of_many-t.result h),
+        ap columns (range_read c.args.r c.in-Some.t h),
       );
     }
 
@@ -59,11 +62,11 @@ search-found-requires t c =
     let i = c.nothing_new.ensures.idles.leaving in
     let p = c.requires in
     let r = c.args.r in
-    let n = c.next_of_many-t.result in
-    let h : n < r.count = omega (arith, c.if-r-t.false) in
+    let n = c.in-Some.t in
+    let h : n < r.count = omega (arith, c.in-Some.ensures.here, c.requires.spread.whole) in
     let l : n < length (ranges_of r) = omega (arith, h, p.spread.whole) in
     let y = slack_less (ranges_of r) n ((range (ranges_of r) n).low.0 + c.loop-c.c) l
-    (c.next_of_many-t.ensures.several l) in (
+    c.in-Some.ensures.several in (
       omega (arith, y, ap slack q.is),
       (
         p.formed,
@@ -87,17 +90,14 @@ search-found-requires t c =
       ),
     )
 
-pub overflow_add-c : goal.overflow_add-c
-overflow_add-c t c = record { fits = omega (arith, c.loop-c-test.true, c.columns-m.ensures) }
-
 pub loop-c-smaller : goal.loop-c-smaller
 loop-c-smaller t c = omega (arith, c.loop-c-test.true)
 
 pub loop-c-preserved : goal.loop-c-preserved
 loop-c-preserved t c =
     let r = c.args.r in
-    let n = c.next_of_many-t.result in
-    let h : n < r.count = omega (arith, c.if-r-t.false) in
+    let n = c.in-Some.t in
+    let h : n < r.count = omega (arith, c.in-Some.ensures.here, c.requires.spread.whole) in
     let q = c.narrowed-s.ensures in (
       turn_more c.requires.spread h (omega (
         arith,
@@ -111,8 +111,8 @@ loop-c-preserved t c =
 pub returns : goal.returns
 returns t c =
     let r = c.args.r in
-    let n = c.next_of_many-t.result in
-    let h : n < r.count = omega (arith, c.if-r-t.false) in
+    let n = c.in-Some.t in
+    let h : n < r.count = omega (arith, c.in-Some.ensures.here, c.requires.spread.whole) in
     record {
       searched = searched_after c.nothing_new.ensures.idles.leaving
           (turn_all c.requires.spread h (omega (

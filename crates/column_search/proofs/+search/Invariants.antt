@@ -1,6 +1,5 @@
 -- The loop's invariant: the columns before the next one are tried; the measure is by how much the
 -- ends stand apart.
-use Prim.Native.Nat.{◌-◌}
 use Rattle.grammar.specs.Content.{rules_of}
 use Rattle.column_ranges.specs.RangeSentences.{ranges_of}
 use Rattle.narrowing.proofs.Choices.{slack}
@@ -16,6 +15,3 @@ invariant-loop-c l =
     Turn (rules_of l.g) (ranges_of l.r) l.r.count l.t l.c l.initial.found l.initial.words l.words
     l.found
     × Beside (rules_of l.g) l.r.count l.words l.kept
-
-abbrev pub decreases-loop-c : goal.decreases-loop-c
-decreases-loop-c l = l.m - l.c

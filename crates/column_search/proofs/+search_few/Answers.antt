@@ -21,8 +21,8 @@ returns-then-settled t c = record {
   behind_2 = c.requires.behind;
 }
 
-pub last_token-t-requires : goal.last_token-t-requires
-last_token-t-requires t c = record {
+pub last_token-requires : goal.last_token-requires
+last_token-requires t c = record {
   spread = (c.requires.spread, c.requires.to_le_count.0);
   singles_from = c.requires.to_le_count.1;
 }
@@ -32,7 +32,7 @@ try_choice-requires t c = record {
   formed = c.requires.formed;
   spread = (
     c.requires.spread,
-    c.last_token-t.ensures.absent (omega (arith, c.if-r-t.true, c.requires.spread.whole)),
+    c.in_default.ensures,
     c.settled.ensures.stay c.if-settled.false,
   );
   count_in_bounds = c.requires.count_in_bounds;
@@ -42,17 +42,20 @@ try_choice-requires t c = record {
 
 pub overflow_add-t : goal.overflow_add-t
 overflow_add-t t c =
-    record { fits = omega (arith, c.if-r-t.false, c.requires.spread.few) }
+    record {
+      fits =
+          omega (arith, c.in-Some.ensures.one.here, c.requires.spread.few, c.requires.spread.whole);
+    }
 
 pub fill_between-requires : goal.fill_between-requires
 fill_between-requires t c =
     let p = c.requires.spread in
-    let h : c.last_token-t.result < length (ranges_of c.args.r) =
-    omega (arith, c.if-r-t.false, p.whole) in
+    let h : c.in-Some.t < length (ranges_of c.args.r) =
+    c.in-Some.ensures.one.here in
     record {
       count_fits = (
         record { few = p.few; whole = p.whole },
-        omega (arith, c.last_token-t.ensures.before h),
+        omega (arith, c.in-Some.ensures.before),
         c.requires.to_le_count.0,
       );
       count_in_bounds = c.requires.count_in_bounds;
@@ -61,15 +64,17 @@ fill_between-requires t c =
     }
 
 pub bounds-r-t : goal.bounds-r-t
-bounds-r-t t c = omega (arith, c.if-r-t.false, c.requires.spread.few)
+bounds-r-t t c =
+    omega (arith, c.in-Some.ensures.one.here, c.requires.spread.few, c.requires.spread.whole)
 
 pub columns-m-requires : goal.columns-m-requires
 columns-m-requires t c =
-    ended_at c.requires.spread c.last_token-t.result (omega (arith, c.if-r-t.false))
+    ended_at c.requires.spread c.in-Some.t
+    (omega (arith, c.in-Some.ensures.one.here, c.requires.spread.whole))
 
 pub loop-i-init : goal.loop-i-init
 loop-i-init t c = (
-  turn_none c.requires.spread (omega (arith, c.if-r-t.false)),
+  turn_none c.requires.spread (omega (arith, c.in-Some.ensures.one.here, c.requires.spread.whole)),
   record {
     beside = c.fill_between.ensures.beside;
     solved = c.fill_between.ensures.advances.solved;
@@ -78,35 +83,39 @@ loop-i-init t c = (
 
 pub narrowed-s-requires : goal.narrowed-s-requires
 narrowed-s-requires t c =
-    let h : c.last_token-t.result < c.args.r.count = omega (arith, c.if-r-t.false) in
+    let h : c.in-Some.t < c.args.r.count =
+    omega (arith, c.in-Some.ensures.one.here, c.requires.spread.whole) in
     record {
       spread = (c.requires.spread, h);
       c_bound = omega (
         arith,
         c.loop-i-test.true,
         c.columns-m.ensures,
-        ap columns (range_read c.args.r c.last_token-t.result h),
+        ap columns (range_read c.args.r c.in-Some.t h),
       );
     }
 
 pub overflow_add-t-in-loop-i : goal.overflow_add-t-in-loop-i
 overflow_add-t-in-loop-i t c =
-    record { fits = omega (arith, c.if-r-t.false, c.requires.spread.few) }
+    record {
+      fits =
+          omega (arith, c.in-Some.ensures.one.here, c.requires.spread.few, c.requires.spread.whole);
+    }
 
 pub search_few-found-requires : goal.search_few-found-requires
 search_few-found-requires t c =
     let q = c.narrowed-s.ensures in
     let i = c.loop-i.invariant in
     let f = c.fill_between.ensures.advances in
-    let k = c.last_token-t.ensures in
+    let k = c.in-Some.ensures in
     let p = c.requires in
     let r = c.args.r in
-    let v = c.last_token-t.result in
-    let h : v < r.count = omega (arith, c.if-r-t.false) in
+    let v = c.in-Some.t in
+    let h : v < r.count = omega (arith, c.in-Some.ensures.one.here, c.requires.spread.whole) in
     let l : v < length (ranges_of r) = omega (arith, h, p.spread.whole) in
-    let b : c.args.from ≤ v = several_past p.to_le_count.2 l (k.several l) in
+    let b : c.args.from ≤ v = several_past p.to_le_count.2 l k.one.several in
     let y = slack_less (ranges_of r) v ((range (ranges_of r) v).low.0 + c.loop-i.i) l
-    (k.several l) in (
+    k.one.several in (
       omega (arith, y, ap slack q.is),
       (
         p.formed,
@@ -126,7 +135,7 @@ search_few-found-requires t c =
               (
                 (
                   omega (arith, h, q.count),
-                  singles_narrowed p.spread q (k.behind l),
+                  singles_narrowed p.spread q k.behind,
                   before_narrowed p.spread q b p.to_le_count.2,
                 ),
                 behind_narrowed p.spread q b i.1,
@@ -137,9 +146,6 @@ search_few-found-requires t c =
       ),
     )
 
-pub overflow_add-i : goal.overflow_add-i
-overflow_add-i t c = record { fits = omega (arith, c.loop-i-test.true, c.columns-m.ensures) }
-
 pub loop-i-smaller : goal.loop-i-smaller
 loop-i-smaller t c = omega (arith, c.loop-i-test.true)
 
@@ -147,11 +153,11 @@ pub loop-i-preserved : goal.loop-i-preserved
 loop-i-preserved t c =
     let p = c.requires in
     let r = c.args.r in
-    let v = c.last_token-t.result in
-    let k = c.last_token-t.ensures in
-    let h : v < r.count = omega (arith, c.if-r-t.false) in
+    let v = c.in-Some.t in
+    let k = c.in-Some.ensures in
+    let h : v < r.count = omega (arith, c.in-Some.ensures.one.here, c.requires.spread.whole) in
     let l : v < length (ranges_of r) = omega (arith, h, p.spread.whole) in
-    let b : c.args.from ≤ v = several_past p.to_le_count.2 l (k.several l) in
+    let b : c.args.from ≤ v = several_past p.to_le_count.2 l k.one.several in
     let q = c.narrowed-s.ensures in (
       turn_more p.spread h (omega (
         arith,
@@ -165,8 +171,8 @@ loop-i-preserved t c =
 pub returns : goal.returns
 returns t c =
     let r = c.args.r in
-    let v = c.last_token-t.result in
-    let h : v < r.count = omega (arith, c.if-r-t.false) in
+    let v = c.in-Some.t in
+    let h : v < r.count = omega (arith, c.in-Some.ensures.one.here, c.requires.spread.whole) in
     let p = c.requires in
     let l : v < length (ranges_of r) = omega (arith, h, p.spread.whole) in
     let f = c.fill_between.ensures.advances in
@@ -178,6 +184,6 @@ returns t c =
             c.columns-m.ensures,
             ap columns (range_read r v h),
           )) c.loop-i.invariant.0);
-      behind_2 = behind_later (omega (arith, c.last_token-t.ensures.before l))
+      behind_2 = behind_later (omega (arith, c.in-Some.ensures.before))
           c.loop-i.invariant.1;
     }

@@ -1,6 +1,6 @@
 -- The loop's invariant: the columns before the next one are tried, and the spans behind the token
 -- and those before `from` are as they were; the measure is by how much the ends stand apart.
-use Prim.Native.Nat.{◌+◌, ◌-◌}
+use Prim.Native.Nat.{◌+◌}
 use Rattle.grammar.specs.Content.{rules_of}
 use Rattle.column_ranges.specs.RangeSentences.{ranges_of}
 use Rattle.narrowing.proofs.Choices.{slack}
@@ -16,6 +16,3 @@ invariant-loop-i l =
     Turn (rules_of l.g) (ranges_of l.r) l.r.count l.t l.i l.initial.found l.initial.words l.words
     l.found
     × Behind l.words l.kept (rules_of l.g) (ranges_of l.r) l.r.count l.from (l.t + 1)
-
-abbrev pub decreases-loop-i : goal.decreases-loop-i
-decreases-loop-i l = l.m - l.i

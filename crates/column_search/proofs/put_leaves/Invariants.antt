@@ -1,5 +1,4 @@
 -- The loop's invariant: the pairs of the first i tokens are written.
-use Prim.Native.Nat.{◌-◌}
 use Rattle.grammar.specs.Content.{rules_of}
 use Rattle.marks.specs.Drafts.{drafted}
 use Rattle.chart.proofs.SingleLaws.{PairsWritten}
@@ -10,6 +9,3 @@ abbrev pub invariant-loop-i : goal.invariant-loop-i
 invariant-loop-i l =
     PairsWritten l.initial.words l.words (rules_of l.g) (drafted l.d) l.d.count l.i
     × Mirrored (rules_of l.g) l.d.count l.words l.kept
-
-abbrev pub decreases-loop-i : goal.decreases-loop-i
-decreases-loop-i l = l.d.count - l.i

@@ -1,6 +1,7 @@
 -- All is filled once, then the choices are gone through.
 use native.Mathlib.Omega.{arith}
 use Rattle.range_charts.proofs.Unmoved.{solved_all}
+use Rattle.column_search.proofs.Few.{first_before}
 use Rattle.column_search.proofs.Searching.{leaved_small, searched_after}
 use Rattle.column_search.proofs.search_rest.Goals as goal
 
@@ -25,7 +26,7 @@ search_few-requires c =
       to_le_count = (
         omega arith,
         record { each = λ k h l. absurd (omega (arith, p.spread.whole)) },
-        c.first_token-from.ensures,
+        first_before _ _ c.first_token.ensures c.unwrap_or-from.ensures,
       );
       behind = record { beside = f.beside; solved = solved_all _ _ f.solves };
     }

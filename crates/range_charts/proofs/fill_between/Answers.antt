@@ -17,9 +17,6 @@ loop-start-init c =
       q.beside,
     )
 
-pub overflow_sub-start : goal.overflow_sub-start
-overflow_sub-start c = omega (arith, c.loop-start-test.true)
-
 pub fill_start-requires : goal.fill_start-requires
 fill_start-requires c =
     let l = c.loop-start in

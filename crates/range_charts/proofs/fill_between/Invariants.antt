@@ -10,6 +10,3 @@ invariant-loop-start l =
     (l.lo ≤ l.start) × (l.start ≤ l.r.count)
     × Advances l.initial.words l.words (rules_of l.g) (ranges_of l.r) l.r.count l.from l.start
     × Beside (rules_of l.g) l.r.count l.words l.kept
-
-abbrev pub decreases-loop-start : goal.decreases-loop-start
-decreases-loop-start l = l.start

@@ -45,24 +45,6 @@ loop-len-init c =
       c.requires.formed.1,
     )
 
-pub overflow_add-start : goal.overflow_add-start
-overflow_add-start c = record {
-  fits = omega
-      (arith, c.loop-len.invariant.1, c.requires.count_fits.0.few);
-}
-
-pub overflow_add-at : goal.overflow_add-at
-overflow_add-at c = record {
-  fits = omega (
-    arith,
-    c.loop-len-test.true,
-    c.requires.count_fits.0.few,
-  );
-}
-
-pub overflow_sub-z : goal.overflow_sub-z
-overflow_sub-z c = omega (arith, c.loop-len.invariant.0)
-
 pub bounds-r-at : goal.bounds-r-at
 bounds-r-at c = omega (
   arith,
@@ -84,33 +66,12 @@ stretched-k-requires c = omega (
   c.requires.count_fits.0.few,
 )
 
-pub overflow_add-len : goal.overflow_add-len
-overflow_add-len c = record {
-  fits = omega (
-    arith,
-    c.loop-len-test.true,
-    c.requires.count_fits.0.few,
-  );
-}
-
-pub overflow_add-start-in-loop-len : goal.overflow_add-start-in-loop-len
-overflow_add-start-in-loop-len c = record {
-  fits = omega (
-    arith,
-    c.loop-len-test.true,
-    c.requires.count_fits.0.few,
-  );
-}
-
-pub loop-len-smaller-then-start-len : goal.loop-len-smaller-then-start-len
-loop-len-smaller-then-start-len c = omega (arith, c.loop-len-test.true)
-
-pub loop-len-preserved-then-start-len : goal.loop-len-preserved-then-start-len
-loop-len-preserved-then-start-len c = let i = c.loop-len.invariant in (
+pub loop-len-preserved-then-at-from : goal.loop-len-preserved-then-at-from
+loop-len-preserved-then-at-from c = let i = c.loop-len.invariant in (
   omega arith,
   omega (arith, c.loop-len-test.true),
   (marks c.args.r c.args.start c.loop-len.len _ _ c.requires.count_fits.0.whole i.0
-      c.loop-len-test.true i.2 c.stretched-k.ensures),
+      (omega (arith, c.loop-len-test.true)) i.2 c.stretched-k.ensures),
   i.3,
   i.4,
   from_pass (omega arith) i.5,
@@ -135,12 +96,6 @@ close-requires c =
       mirrored = i.6.mirrored;
     }
 
-pub loop-len-smaller : goal.loop-len-smaller
-loop-len-smaller c = omega (
-  arith,
-  c.loop-len-test.true,
-)
-
 pub loop-len-preserved : goal.loop-len-preserved
 loop-len-preserved c =
     let r = c.args.r in
@@ -161,7 +116,7 @@ loop-len-preserved c =
     omega arith in
     let long : 2 ≤ l + 1 = omega (arith, i.0) in
     let m = marks c.args.r c.args.start c.loop-len.len _ _ c.requires.count_fits.0.whole i.0
-    c.loop-len-test.true i.2 c.stretched-k.ensures in
+    (omega (arith, c.loop-len-test.true)) i.2 c.stretched-k.ensures in
     let q = stretch_marked (ranges_of r) s (l + 1) k m in (
       omega arith,
       h,

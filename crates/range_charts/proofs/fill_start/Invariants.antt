@@ -1,5 +1,5 @@
 -- The loop's invariant: the marks of the span so far, and what is solved.
-use Prim.Native.Nat.{◌+◌, ◌-◌, ◌*◌, ◌≤◌, ◌<◌}
+use Prim.Native.Nat.{◌+◌, ◌*◌, ◌≤◌, ◌<◌}
 use Rattle.grammar.specs.Content.{rules_of}
 use Rattle.grammar.specs.SpanSheet.{pairs}
 use Rattle.spans.specs.Changes.{Past}
@@ -14,6 +14,3 @@ invariant-loop-len l =
     × Past (2 * pairs l.r.count) l.initial.words l.words × Small l.initial.words l.words l.r.count
     × SolvedFrom l.words (rules_of l.g) (ranges_of l.r) l.r.count l.from l.start (l.len + 1)
     × Beside (rules_of l.g) l.r.count l.words l.kept
-
-abbrev pub decreases-loop-len : goal.decreases-loop-len
-decreases-loop-len l = l.r.count - l.len

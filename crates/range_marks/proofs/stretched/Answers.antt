@@ -5,4 +5,4 @@ pub returns : goal.returns
 returns c =
     stretching c.with_next-m.ensures c.low_token-x.ensures
     c.high_token-y.ensures c.high_token-v.ensures
-    c.overlap-yes.ensures c.listed-align.ensures
+    c.overlap.ensures c.included.ensures

@@ -1,8 +1,9 @@
-use mathlib.Core.Path.{refl}
+use mathlib.Core.Path.{refl, ap}
 use native.Mathlib.Omega.{arith}
 use borrow.Author.Rules.{rules}
 use lib.Dec.{lit≤}
 use Rattle.sheets.proofs.Loop.{line_in, count, took, moved, turned, stopped, ended}
+use Rattle.range_sheets.specs.RangeSheets.{few_choices}
 use Rattle.range_sheets.proofs.Accepted.{ranges_ended}
 use Rattle.fields.specs.Cursors.{pieces_from}
 use Rattle.range_sheets.proofs.ranges_from.Goals as goal
@@ -20,34 +21,44 @@ range_step-requires c =
 
 pub offset_bounds-tokens-n : goal.offset_bounds-tokens-n
 offset_bounds-tokens-n c =
-    omega (arith, (took c.loop-t.invariant c.line-c.ensures c.in-Next.ensures).0)
+    omega (
+      arith,
+      (took c.loop-t.invariant c.line-c.ensures
+          (rw c.in-Ok-Some.field-0-is at c.in-Ok-Some.ensures)).0,
+    )
 
 pub bounds-tokens-n : goal.bounds-tokens-n
-bounds-tokens-n c = (took c.loop-t.invariant c.line-c.ensures c.in-Next.ensures).0
+bounds-tokens-n c = (took c.loop-t.invariant c.line-c.ensures
+    (rw c.in-Ok-Some.field-0-is at c.in-Ok-Some.ensures)).0
 
 pub overflow_add-n : goal.overflow_add-n
-overflow_add-n c = omega (arith, (took c.loop-t.invariant c.line-c.ensures c.in-Next.ensures).0)
+overflow_add-n c = omega (
+  arith,
+  (took c.loop-t.invariant c.line-c.ensures
+      (rw c.in-Ok-Some.field-0-is at c.in-Ok-Some.ensures)).0,
+)
 
 pub overflow_add-at : goal.overflow_add-at
-overflow_add-at c = omega (arith, (took c.loop-t.invariant c.line-c.ensures c.in-Next.ensures).1)
+overflow_add-at c = omega (
+  arith,
+  (took c.loop-t.invariant c.line-c.ensures
+      (rw c.in-Ok-Some.field-0-is at c.in-Ok-Some.ensures)).1,
+)
 
 pub loop-t-smaller : goal.loop-t-smaller
 loop-t-smaller c =
     moved c.loop-t.invariant c.line-c.ensures
-    c.in-Next.ensures
+    (rw c.in-Ok-Some.field-0-is at c.in-Ok-Some.ensures)
 
 pub loop-t-preserved : goal.loop-t-preserved
 loop-t-preserved c =
     turned c.loop-t.invariant c.line-c.ensures
-    c.in-Next.ensures
+    (rw c.in-Ok-Some.field-0-is at c.in-Ok-Some.ensures)
 
-pub overflow_add-n-in-Stop : goal.overflow_add-n-in-Stop
-overflow_add-n-in-Stop c = omega (arith, c.loop-t.invariant.few)
-
-pub returns-in-Stop : goal.returns-in-Stop
-returns-in-Stop c =
-    rw (stopped c.loop-t.invariant c.line-c.ensures
-    c.in-Stop.ensures) c.refuse_ranges.ensures
+pub returns-in-Err : goal.returns-in-Err
+returns-in-Err c = record {
+  is = ap few_choices (stopped c.loop-t.invariant c.line-c.ensures c.in-Err.ensures);
+}
 
 pub finished-requires : goal.finished-requires
 finished-requires c =
@@ -57,11 +68,11 @@ finished-requires c =
       whole = count T;
       ended = ranges_ended
           (pieces_from 10 c.args.s.now c.args.start) _
-          (ended T c.line-c.ensures c.in-End.ensures);
+          (ended T c.line-c.ensures (rw c.in-Ok-None.field-0-is at c.in-Ok-None.ensures));
     }
 
-pub returns-in-End : goal.returns-in-End
-returns-in-End c =
+pub returns-in-Ok-None : goal.returns-in-Ok-None
+returns-in-Ok-None c =
     let T = c.loop-t.invariant in
-    rw (ended T c.line-c.ensures c.in-End.ensures)
+    rw (ended T c.line-c.ensures (rw c.in-Ok-None.field-0-is at c.in-Ok-None.ensures))
     c.finished.ensures
