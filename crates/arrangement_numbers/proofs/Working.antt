@@ -1,13 +1,12 @@
--- What the functions work out, step by step: a place, a cell's number, the number of the first
+-- What the functions work out, step by step: a cell's number, the number of the first
 -- cells, and how many share them.
 use mathlib.Core.Path.{◌≡◌, refl, sym, ◌∙◌, ap}
-use Prim.Native.Nat.{ℕ, zero, suc, ◌+◌, ◌-◌, ◌*◌, ◌%◌, ◌^◌, ◌≤◌, ◌<◌}
+use Prim.Native.Nat.{ℕ, zero, suc, ◌+◌, ◌-◌, ◌*◌, ◌^◌, ◌≤◌, ◌<◌}
 use native.Mathlib.Omega.{arith}
-use native.Mathlib.Nat.{mod-lt, mod-eq_of_lt, one-mul, zero-mul, mul-zero, pow-suc, mul-le-mul}
+use native.Mathlib.Nat.{zero-mul, mul-zero, pow-suc, mul-le-mul}
 use native.Mathlib.Numerals.{add-one}
 use lib.ListN.{get_or, take}
-use lib.Pow.{pow_pos, pow-lt}
-use lib.Count.{ones, ones-le}
+use lib.Count.{ones}
 use Rattle.grammar.specs.declared.Cell.{Cell}
 use Rattle.grammar.specs.Candidates.{Ranged}
 use Rattle.grammar.specs.Candidates as Of
@@ -23,29 +22,7 @@ use Rattle.arrangement_numbers.proofs.NumberLaws.{capacity_all}
 use Rattle.arrangement_numbers.proofs.BlockLaws.{front_step, step_largest, front_small}
 use Rattle.arrangement_numbers.proofs.BlockLaws.{room_small}
 
--- ---- places
-
-pub one_shl : (x : ℕ) → x < 64 → (1 * 2 ^ x) % 2 ^ 64 ≡ 2 ^ x
-one_shl x h = ap (λ (z : ℕ). z % 2 ^ 64) (one-mul (2 ^ x)) ∙ mod-eq_of_lt (pow-lt h)
-
-pub shl_pos : (x : ℕ) → x < 64 → 0 < (1 * 2 ^ x) % 2 ^ 64
-shl_pos x h = omega (arith, one_shl x h, pow_pos x)
-
-pub place_small : (s x : ℕ) → place_in s x ≤ x
-place_small s x = ones-le x (s % 2 ^ x) (mod-lt s (pow_pos x))
-
-pub place_is : (s x : ℕ) → x < 64 → ones (s % ((1 * 2 ^ x) % 2 ^ 64)) ≡ place_in s x
-place_is s x h = ap (λ (z : ℕ). ones (s % z)) (one_shl x h)
-
 -- ---- one cell
-
-pub steps_first : (i : ℕ) → i ≡ 0 → 1 ≡ suc (largest_step_of i)
-steps_first zero e = refl
-steps_first (suc i) e = absurd (omega arith)
-
-pub steps_later : (i : ℕ) → (i ≡ 0 → ⊥) → 3 ≡ suc (largest_step_of i)
-steps_later zero e = absurd (e refl)
-steps_later (suc i) e = refl
 
 pub largest_small : (i : ℕ) → largest_step_of i ≤ 2
 largest_small zero = omega arith

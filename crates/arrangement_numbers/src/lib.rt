@@ -14,22 +14,14 @@ ghost use Rattle.arrangement_numbers.specs.Numbers.{digit, radix};
 ghost use Rattle.arrangement_numbers.specs.Shares.{first_of_share};
 ghost use Rattle.arrangement_numbers.specs.Blocks.{place_in, number_in, room, least, Few};
 
-use candidates::Candidate;
+use candidates::{Candidate, members_below};
 use grammar::Cell;
-
-// How many members of the set are below x.
-fn place(set: u64, x: u8) -> u64
-    requires { x < 64 }
-    ensures { result ≡ place_in set x }
-{
-    u64::count_ones(set % (1u64 << x)) as u64
-}
 
 // How many line steps the token at i may have.
 fn steps_at(i: usize) -> u64
     ensures { result ≡ suc (largest_step_of i) }
 {
-    if i == 0 { 1 } else { 3 }
+    Candidate::largest_step(i) as u64 + 1
 }
 
 // How many cells the token at i may have.
@@ -47,7 +39,7 @@ fn cell_number(set: u64, n: usize, i: usize, c: Cell) -> u64
     requires ranged { Ranged (Among set) n (largest_step_of i) c }
     ensures { result ≡ digit (ones set) (place_in set) n (largest_step_of i) c }
 {
-    let t = place(set, c.terminal);
+    let t = members_below(set, c.terminal);
     let s = c.step as u64;
     let k = (c.column - 1) as u64;
     (t * steps_at(i) + s) * (n as u64) + k
@@ -61,12 +53,9 @@ fn front_number(set: u64, c: Candidate, n: usize, b: usize) -> u64
     ensures { result ≡ number_in set n (take b (cells c 0 n)) }
 {
     let mut v: u64 = 0;
-    let mut i: usize = 0;
-    while i < b {
-        let d = c.cell(i);
-        let x = cell_number(set, n, i, d);
+    for i in 0..b {
+        let x = cell_number(set, n, i, c.cells[i]);
         v = v * choices_at(set, n, i) + x;
-        i += 1;
     }
     v
 }
@@ -78,10 +67,8 @@ fn room_past(set: u64, n: usize, b: usize) -> u64
     ensures { result ≡ room set n b }
 {
     let mut v: u64 = 1;
-    let mut i: usize = n;
-    while b < i {
-        i -= 1;
-        v = choices_at(set, n, i) * v;
+    for i in (b..n).rev() {
+        v *= choices_at(set, n, i);
     }
     v
 }

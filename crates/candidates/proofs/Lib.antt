@@ -6,3 +6,4 @@ pub mod TerminalSets
 pub mod Counting
 pub mod Limit
 pub mod Measure
+pub mod Members

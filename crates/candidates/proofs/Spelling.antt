@@ -18,7 +18,7 @@ use Rattle.grammar.proofs.SweepLaws.{sentence_length}
 use Rattle.candidates.specs.declared.Candidate.{Candidate}
 use Rattle.candidates.specs.Arrays.{cell_at, cells}
 use Rattle.candidates.specs.Succession.{Shares}
-use Rattle.candidates.specs.Spelling.{LowSteps, Spells}
+use Rattle.candidates.specs.Spelling.{LowSteps, Placed, Spells}
 use Rattle.candidates.proofs.Windows.{cells_turn, cells_end}
 use Rattle.grammar.specs.Sentences.{spelled, no_token}
 
@@ -93,22 +93,18 @@ module _ (m : ℕ) (c : Candidate) (n : ℕ) (tokens : List Token) (line i : ℕ
           drop-cons tokens i no_token inside in
           cc
 
-pub spelled_front : (m : ℕ) (c : Candidate) (n : ℕ) (tokens : List Token) (line i : ℕ) → n ≤ i
+spelled_front : (m : ℕ) (c : Candidate) (n : ℕ) (tokens : List Token) (line i : ℕ) → n ≤ i
     → Spelling m c n tokens line i → take n tokens ≡ sentence (cells c 0 n)
 spelled_front m c n tokens line i h s =
     let e : i ≡ n = omega (arith, s.at) in
     let f : take i tokens ++ [] ≡ sentence (cells c 0 n) = rw (cells_end n i c h) at s.front in
     rw (e, append-nil) at f
 
-pub spelled_whole : (c : Candidate) (n : ℕ) (tokens : List Token) (line i : ℕ) → n ≤ i
-    → Spelling 64 c n tokens line i → Spells (cells c 0 n) n (record { tokens = tokens; count = n })
-spelled_whole c n tokens line i h s =
+pub spelled_whole : (m : ℕ) (c : Candidate) (n : ℕ) (tokens : List Token) (line i : ℕ) → n ≤ i
+    → Spelling m c n tokens line i → Placed (cells c 0 n) n m tokens
+spelled_whole m c n tokens line i h s =
     let e : i ≡ n = omega (arith, s.at) in
-    record {
-      count = refl;
-      front = spelled_front 64 c n tokens line i h s;
-      past = rw e at s.past;
-    }
+    record { front = spelled_front m c n tokens line i h s; past = rw e at s.past }
 
 -- ---- what a caller reads off
 

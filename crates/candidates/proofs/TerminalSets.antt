@@ -4,22 +4,21 @@ use mathlib.Core.Bool.{true}
 use mathlib.Core.Logic.{◌⊎◌, inl, inr, ⊎_elim, ◌↔◌}
 use mathlib.Core.List.Memᴰ
 use mathlib.Core.List.{List, [], ◌∷◌, ◌++◌}
-use Prim.Native.Nat.{ℕ, zero, suc, ◌+◌, ◌≤◌, ◌<◌}
+use Prim.Native.Nat.{ℕ, ◌+◌, ◌≤◌, ◌<◌}
 use native.Mathlib.Omega.{arith}
 use native.Mathlib.Numerals.{add-one}
 use native.Mathlib.Decide.{dec_lt}
 use lib.ListN.{length, get_or, take}
 use lib.Seq.{take-suc}
-use Rattle.sets.specs.declared.Member.{Member}
-use Rattle.sets.specs.declared.Member.TheVariants.{At, Nothing}
+use Rattle.std.specs.Prelude.{Some, None}
 use Rattle.sets.specs.Sets.{In}
 use Rattle.sets.specs.Firsts.{FirstFrom}
 use Rattle.sets.proofs.Sets.{in_zero, insert_same, insert_keeps, insert_only}
 use Rattle.grammar.specs.declared.Cell.{Cell}
 use Rattle.grammar.specs.declared.Rule.{Rule}
+use Rattle.grammar.proofs.Lists.{every_at}
 use Rattle.grammar.specs.declared.Clause.{Clause}
 use Rattle.grammar.specs.declared.Grammar.{Grammar}
-use Rattle.grammar.specs.Layout.{Every}
 use Rattle.grammar.specs.Trees.{Rules}
 use Rattle.grammar.specs.Content.{rules_of, SmallClause, SmallRule, Formed}
 use Rattle.grammar.specs.Candidates.{Terminal, Cells, Candidate}
@@ -104,22 +103,10 @@ widened_range s a b u k e h = record {
 
 -- ---- numbers in range
 
-every_at : {A : Type 0} (P : A → Type 0) (l : List A) (d : A) (i n : ℕ) → i < n → i < length l
-    → Every P (take n l) → P (get_or l i d)
-every_at P l d i zero h k e = absurd (omega arith)
-every_at P [] d i (suc n) h k e = absurd (omega arith)
-every_at P (a ∷ l) d zero (suc n) h k e = e.0
-every_at P (a ∷ l) d (suc i) (suc n) h k e = every_at P l d i n (omega arith) (omega arith) e.1
-
--- the rule at i is small
-pub small_rule_at : (g : Grammar) (d : Rule) (i : ℕ) → i < g.count → i < length g.rules
-    → Formed g → SmallRule (get_or g.rules i d)
-small_rule_at g d i h l f = every_at SmallRule g.rules d i g.count h l f.small
-
--- and so is its clause
-pub small_at : (g : Grammar) (d : Rule) (i : ℕ) → i < g.count → i < length g.rules → Formed g
-    → SmallClause (get_or g.rules i d).clause
-small_at g d i h l f = (small_rule_at g d i h l f).clause
+-- the clause of the rule at i is small
+pub small_at : {g : Grammar} → Formed g → (d : Rule) (i : ℕ) → i < length (rules_of g)
+    → SmallClause (get_or (rules_of g) i d).clause
+small_at {g} f d i h = (every_at SmallRule d (rules_of g) f.small i h).clause
 
 pub atom_small : (k : Clause) (a b : ℕ) → k ≡ Clause.Atom a b → SmallClause k → (a < 64) × (b < 64)
 atom_small k a b e s = let t : SmallClause (Clause.Atom a b) = rw e at s in t
@@ -164,13 +151,12 @@ candidate_over Q R f {n} {cs} k = record {
 }
 
 -- the first member from 0 on is the least
-pub lowest_of : (s : ℕ) (r : Member) (u : ℕ) → r ≡ At u → FirstFrom s 0 r → Lowest s u
-lowest_of s r u e h = let k : FirstFrom s 0 (At u) = rw e at h in
-    record { there = (k.1, k.2); least = λ x b. k.3 x b.1 (omega arith) }
+pub lowest_of : (s u : ℕ) → FirstFrom s 0 (Some u) → Lowest s u
+lowest_of s u k = record { there = (k.1, k.2); least = λ x b. k.3 x b.1 (omega arith) }
 
 -- or there is none, and so no candidate
-pub none_of : (s : ℕ) (r : Member) → r ≡ Nothing → FirstFrom s 0 r → (x : ℕ) → Among s x → ⊥
-none_of s r e h x b = let k : FirstFrom s 0 Nothing = rw e at h in omega (arith, k x b.0 b.1)
+pub none_of : (s : ℕ) → FirstFrom s 0 None → (x : ℕ) → Among s x → ⊥
+none_of s k x b = omega (arith, k x b.0 b.1)
 
 pub no_candidate : (Q : ℕ → Type 0) → ((x : ℕ) → Q x → ⊥) → (n : ℕ) (cs : List Cell) → 1 ≤ n
     → Candidate Q n cs → ⊥

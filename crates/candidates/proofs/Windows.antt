@@ -1,18 +1,17 @@
 -- The cells of a candidate's arrays from i on: what is promised of the cell at i and of those
 -- behind it makes what is promised from i on.
 use mathlib.Core.Path.{◌≡◌, refl, sym, ◌∙◌, ap, subst}
-use mathlib.Core.Bool.{Bool, true, false}
+use Rattle.std.specs.Prelude.{Some, None}
 use mathlib.Core.List.{List, [], ◌∷◌}
 use Prim.Native.Nat.{ℕ, zero, suc, ◌+◌, ◌-◌, ◌≤◌, ◌<◌}
 use native.Mathlib.Omega.{arith}
 use native.Mathlib.Numerals.{add-one}
 use native.Mathlib.Nat.{sub-zero}
 use lib.ListN.{length, take}
-use Rattle.sets.proofs.Says.{true_not_false}
 use Rattle.grammar.specs.declared.Cell.{Cell}
 use Rattle.grammar.specs.Candidates as Of
 use Rattle.candidates.specs.declared.Candidate.{Candidate}
-use Rattle.candidates.specs.declared.Advanced.{Advanced}
+use Rattle.candidates.specs.declared.Stepped.{Stepped}
 use Rattle.candidates.specs.Terminals.{Among, Lowest}
 use Rattle.candidates.specs.Arrays.{cell_at, cells}
 use Rattle.candidates.specs.Succession.{Shares, First, Follows, Ends, Succeeds}
@@ -103,30 +102,25 @@ module _ (n : ℕ) (c : Candidate) (i m p : ℕ) (em : m ≡ largest_step_of i)
         → Fits (Among s) n m p d
     fits_at s f = rw (em, ep, ed) f
 
-    pub last_at : (s : ℕ) (a : Advanced) → a ≡ Advanced.Last → Advances s n m p d a
-        → (upto : ℕ) (r : Candidate) → Raises s n c i false upto r
-    last_at s a ea u upto r =
-        let l : Advances s n m p d Advanced.Last = rw ea at u in
-        record { next = λ e. absurd (true_not_false (sym e)); last = λ e. rw (em, ep, ed) at l }
+    pub last_at : (s : ℕ) → Advances s n m p d None → Raises s n c i None
+    last_at s l = rw (em, ep, ed) at l
 
-    pub raised_at : (s : ℕ) (a : Advanced) (e : Cell) (c' r : Candidate) → a ≡ Advanced.To e
-        → Advances s n m p d a → Changed c i e c' → Filled s n c' (i + 1) r
-        → Raises s n c i true (i + 1) r
-    raised_at s a e c' r ea u ch f =
-        let x : Advances s n m p d (Advanced.To e) = rw ea at u in
+    pub raised_at : (s : ℕ) (e : Cell) (c' r : Candidate) → Advances s n m p d (Some e)
+        → Changed c i e c' → Filled s n c' (i + 1) r
+        → Raises s n c i (Some (record { upto = i + 1; to = r }))
+    raised_at s e c' r x ch f =
         let y : NextCell (Among s) n (largest_step_of i) (column_before_of c i) (cell_at c i) e =
         rw (em, ep, ed) at x in
         let q : cell_at r i ≡ cell_at c' i = f.kept i (omega arith) in
         let l : Least (Among s) n 2 (cell_at c' i).column (n - (i + 1))
         (cells r (i + 1) (n - (i + 1))) = rw (step_turn i, column_turn c' i) at f.least in
-        let z : Raised s n c i (i + 1) r = record {
+        record {
           at = refl;
           kept = λ j k. f.kept j (omega arith) ∙ ch.other j (λ z. omega arith);
           next = rw (q ∙ ch.here) y;
           least = subst (λ (x : ℕ). Least (Among s) n 2 x (n - (i + 1))
               (cells r (i + 1) (n - (i + 1)))) (sym (ap (λ (x : Cell). x.column) q)) l;
-        } in
-        record { next = λ e. z; last = λ e. absurd (true_not_false e) }
+        }
 
 -- ---- what fits, follows and ends from i on
 
@@ -250,7 +244,7 @@ module _ (s n b : ℕ) (c : Candidate) (k : Of.Candidate (Among s) n (cells c 0 
             (λ j q. x.kept j (omega (arith, x.at)));
       }
 
-  last_ends : LastFrom s n c b 0 → Ends s n b (cells c 0 n)
+  pub last_ends : LastFrom s n c b 0 → Ends s n b (cells c 0 n)
   last_ends l =
       let x : Last (Among s) n 0 0 b (cells c 0 n) = rw (sub-zero n, sub-zero b) at l in
       record {
@@ -263,21 +257,12 @@ module _ (s n b : ℕ) (c : Candidate) (k : Of.Candidate (Among s) n (cells c 0 
   last_before : (i : ℕ) → 0 < i → LastFrom s n c b i → LastFrom s n c b ((i - 1) + 1)
   last_before i h l = let e : i ≡ (i - 1) + 1 = omega arith in subst (LastFrom s n c b) e l
 
-  pub raises_follows : (i upto : ℕ) {more : Bool} {r : Candidate} → 0 < i → i ≤ b → b ≤ n
-      → LastFrom s n c b i → more ≡ true → Raises s n c (i - 1) more upto r
-      → Succeeds s n b (cells c 0 n) more upto (cells r 0 n)
-  raises_follows i upto {more} {r} h hi hb l e x = record {
-    next = λ q. raised_follows (i - 1) upto r (omega arith) hb (last_before i h l) (x.next e);
-    absent = λ q. absurd (true_not_false (sym e ∙ q));
-  }
+  pub raises_follows : (i : ℕ) {r : Stepped} → 0 < i → i ≤ b → b ≤ n → LastFrom s n c b i
+      → Raises s n c (i - 1) (Some r) → Succeeds s n b (cells c 0 n) (Some r)
+  raises_follows i {r} h hi hb l x =
+      raised_follows (i - 1) r.upto r.to (omega arith) hb (last_before i h l) x
 
-  pub raises_last : (i upto : ℕ) {more : Bool} {r : Candidate} → 0 < i → i ≤ b → b ≤ n
-      → LastFrom s n c b i → more ≡ false → Raises s n c (i - 1) more upto r
-      → LastFrom s n c b (i - 1)
-  raises_last i upto h hi hb l e x =
-      last_turn s n c b (i - 1) (omega arith) (omega arith) (last_before i h l) (x.last e)
-
-  pub last_succeeds : (upto : ℕ) (rs : List Cell) → LastFrom s n c b 0
-      → Succeeds s n b (cells c 0 n) false upto rs
-  last_succeeds upto rs l =
-      record { next = λ e. absurd (true_not_false (sym e)); absent = λ e. last_ends l }
+  pub raises_last : (i : ℕ) → 0 < i → i ≤ b → b ≤ n → LastFrom s n c b i
+      → Raises s n c (i - 1) None → LastFrom s n c b (i - 1)
+  raises_last i h hi hb l x =
+      last_turn s n c b (i - 1) (omega arith) (omega arith) (last_before i h l) x

@@ -1,7 +1,9 @@
 -- The first candidate and the next one: "The next candidate is worked out from the one before
 -- it by that order".
-use Rattle.std.specs.Prelude.{◌≡◌, Bool, true, false, ◌⊎◌, List, ℕ, ◌-◌, ◌≤◌, take}
+use Rattle.std.specs.Prelude.{◌≡◌, ◌⊎◌, List, ℕ, ◌-◌, ◌≤◌, Option, Some, None, take}
 use Rattle.grammar.specs.declared.Cell.{Cell}
+use Rattle.candidates.specs.declared.Stepped.{Stepped}
+use Rattle.candidates.specs.Arrays.{cells}
 use Rattle.grammar.specs.Candidates.{Candidate, CellsBefore}
 use Rattle.candidates.specs.Terminals.{Among}
 
@@ -29,8 +31,7 @@ pub record Follows (s n b : ℕ) (cs : List Cell) (upto : ℕ) (rs : List Cell) 
 pub record Ends (s n b : ℕ) (cs : List Cell) : Type 0 where
   pub last : (ds : List Cell) → Candidate (Among s) n ds → Shares b ds cs ⊎ CellsBefore ds cs
 
--- the next one where there is more, else there is none
-pub record Succeeds (s n b : ℕ) (cs : List Cell) (more : Bool) (upto : ℕ) (rs : List Cell) : Type
-    0 where
-  pub next : more ≡ true → Follows s n b cs upto rs
-  pub absent : more ≡ false → Ends s n b cs
+-- the next one, or that there is none
+abbrev pub Succeeds : ℕ → ℕ → ℕ → List Cell → Option Stepped → Type 0
+Succeeds s n b cs (Some r) = Follows s n b cs r.upto (cells r.to 0 n)
+Succeeds s n b cs None = Ends s n b cs

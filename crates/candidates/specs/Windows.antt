@@ -1,12 +1,12 @@
 -- What the inner functions on one cell and on the cells from one on promise; only the proofs in
 -- this crate need it. A cell is judged by what stands before it: the first follows a token in
 -- column 0 with a largest step of 0, so one rule serves all cells.
-use Rattle.std.specs.Prelude.{◌≡◌, Bool, true, false, ◌⊎◌, ◌≢◌, List, [], ◌∷◌, ℕ, zero, suc, ◌+◌}
-use Rattle.std.specs.Prelude.{◌-◌, ◌≤◌, ◌<◌, length, get_or}
+use Rattle.std.specs.Prelude.{◌≡◌, ◌⊎◌, ◌≢◌, List, [], ◌∷◌, ℕ, zero, suc, ◌+◌}
+use Rattle.std.specs.Prelude.{◌-◌, ◌≤◌, ◌<◌, length, Option, Some, None}
 use Rattle.grammar.specs.declared.Cell.{Cell}
 use Rattle.grammar.specs.Candidates.{Ranged, CellBefore, CellsBefore}
 use Rattle.candidates.specs.declared.Candidate.{Candidate}
-use Rattle.candidates.specs.declared.Advanced.{Advanced}
+use Rattle.candidates.specs.declared.Stepped.{Stepped}
 use Rattle.candidates.specs.Terminals.{Among}
 use Rattle.candidates.specs.Arrays.{cell_at, cells}
 use Rattle.candidates.specs.Succession.{Shares}
@@ -52,9 +52,9 @@ module _ (Q : ℕ → Type 0) (n m p : ℕ) where
     pub last : (d : Cell) → Fits Q n m p d → (d ≡ c) ⊎ CellBefore d c
 
 -- the next cell, or that there is none
-abbrev pub Advances : ℕ → ℕ → ℕ → ℕ → Cell → Advanced → Type 0
-Advances s n m p c (Advanced.To r) = NextCell (Among s) n m p c r
-Advances s n m p c Advanced.Last = LastCell (Among s) n m p c
+abbrev pub Advances : ℕ → ℕ → ℕ → ℕ → Cell → Option Cell → Type 0
+Advances s n m p c (Some r) = NextCell (Among s) n m p c r
+Advances s n m p c None = LastCell (Among s) n m p c
 
 -- ---- cells after one another
 
@@ -88,7 +88,7 @@ largest_step_of (suc i) = 2
 -- the column of the cell before i
 abbrev pub column_before_of : Candidate → ℕ → ℕ
 column_before_of c zero = 0
-column_before_of c (suc i) = get_or c.columns i 0
+column_before_of c (suc i) = (cell_at c i).column
 
 -- r has d at i, and else what c has
 pub record Changed (c : Candidate) (i : ℕ) (d : Cell) (r : Candidate) : Type 0 where
@@ -118,9 +118,8 @@ pub record Raised (s n : ℕ) (c : Candidate) (i upto : ℕ) (r : Candidate) : T
       (cell_at r i)
   pub least : Least (Among s) n 2 (cell_at r i).column (n - (i + 1)) (cells r (i + 1) (n - (i + 1)))
 
--- so it is where there is more, else the cell at i is the last
-pub record Raises (s n : ℕ) (c : Candidate) (i : ℕ) (more : Bool) (upto : ℕ) (r : Candidate) : Type
-    0 where
-  pub next : more ≡ true → Raised s n c i upto r
-  pub last : more ≡ false → LastCell (Among s) n (largest_step_of i) (column_before_of c i)
-      (cell_at c i)
+-- so it is where there is a next cell, else the cell at i is the last
+abbrev pub Raises : ℕ → ℕ → Candidate → ℕ → Option Stepped → Type 0
+Raises s n c i (Some r) = Raised s n c i r.upto r.to
+Raises s n c i None =
+    LastCell (Among s) n (largest_step_of i) (column_before_of c i) (cell_at c i)

@@ -2,7 +2,8 @@
 // limit of refusal 24.
 #![tactic(auto)]
 
-ghost use Rattle.std.specs.Prelude.{◌≡◌, ◌≤◌, ◌<◌};
+ghost use Rattle.std.specs.Prelude.{◌≡◌, ◌%◌, ◌^◌, ◌≤◌, ◌<◌};
+ghost use Rattle.std.specs.Int.Count.{ones};
 ghost use Rattle.sets.specs.Says.{Says};
 ghost use Rattle.grammar.specs.Content.{rules_of, Formed, SmallClause};
 ghost use Rattle.grammar.specs.Candidates as Of;
@@ -13,10 +14,10 @@ ghost use Rattle.candidates.specs.Arrays.{cell_at, cells};
 ghost use Rattle.candidates.specs.Succession.{First, Succeeds};
 ghost use Rattle.candidates.specs.Windows.{Fits, LeastSpot, Room, Advances, largest_step_of};
 ghost use Rattle.candidates.specs.Windows.{column_before_of, Changed, Lowered, Filled, Raises};
-ghost use Rattle.candidates.specs.Spelling.{LowSteps, Spells};
+ghost use Rattle.candidates.specs.Spelling.{LowSteps, Placed, Spells};
 
 use grammar::{Cell, Clause, Column, Grammar, Line, Sentence, Token, Width};
-use sets::{Member, first_from};
+use sets::first_from;
 
 // A line step and a column.
 #[derive(Clone, Copy)]
@@ -41,16 +42,9 @@ fn least_spot(n: u16, m: u8, p: u16) -> Spot
     }
 }
 
-// The cell after one, or that it is the last.
-#[derive(Clone, Copy)]
-enum Advanced {
-    To(Cell),
-    Last,
-}
-
-// The cell after c, among those that come after a token in column p: a column further, else a step,
-// else a terminal.
-fn advance(set: u64, n: u16, m: u8, p: u16, c: Cell) -> Advanced
+// The cell after c, among those that come after a token in column p, if there is one: a column
+// further, else a step, else a terminal.
+fn advance(set: u64, n: u16, m: u8, p: u16, c: Cell) -> Option<Cell>
     requires room { Room n m p }
     requires fits { Fits (Among set) n m p c }
     ensures { Advances set n m p c result }
@@ -59,44 +53,38 @@ fn advance(set: u64, n: u16, m: u8, p: u16, c: Cell) -> Advanced
     let s = c.step;
     let k = c.column + 1;
     if k <= n {
-        return Advanced::To(Cell {
+        return Some(Cell {
             terminal: t,
             step: s,
             column: k,
         });
     }
     if s < m {
-        return Advanced::To(Cell {
+        return Some(Cell {
             terminal: t,
             step: s + 1,
             column: 1,
         });
     }
-    let f = first_from(set, t + 1);
-    let Member::At(u) = f else {
-        return Advanced::Last;
-    };
+    let u = first_from(set, t + 1)?;
     let w = least_spot(n, m, p);
-    Advanced::To(Cell {
+    Some(Cell {
         terminal: u,
         step: w.step,
         column: w.column,
     })
 }
 
-// A candidate of at most seven tokens: their terminals, line steps and columns.
+// A candidate of at most seven tokens, by their cells.
 #[derive(Clone, Copy)]
 pub struct Candidate {
-    pub terminals: [u8; 7],
-    pub steps: [u8; 7],
-    pub columns: [u16; 7],
+    pub cells: [Cell; 7],
 }
 
-// The next candidate, if there is one. Of its cells only those from place `upto` - 1 on may differ
-// from the one before.
+// The next candidate. Of its cells only those from place `upto` - 1 on may differ from the one
+// before.
 #[derive(Clone, Copy)]
 pub struct Stepped {
-    pub more: bool,
     pub upto: usize,
     pub to: Candidate,
 }
@@ -106,7 +94,7 @@ impl Candidate {
     pub const LARGEST_STEP: u8 = 2;
 
     // The largest step of the token at i; the first stands on line 1.
-    fn largest_step(i: usize) -> u8
+    pub fn largest_step(i: usize) -> u8
         ensures { result ≡ largest_step_of i }
     {
         if i == 0 { 0 } else { Self::LARGEST_STEP }
@@ -117,33 +105,19 @@ impl Candidate {
         requires { i ≤ 7 }
         ensures { result ≡ column_before_of self i }
     {
-        if i == 0 { 0 } else { self.columns[i - 1] }
+        if i == 0 { 0 } else { self.cells[i - 1].column }
     }
 
-    // The cell at i.
-    pub fn cell(self, i: usize) -> Cell
-        requires { i < 7 }
-        ensures { result ≡ cell_at self i }
-    {
-        Cell {
-            terminal: self.terminals[i],
-            step: self.steps[i],
-            column: self.columns[i],
-        }
-    }
-
-    // New arrays, with the cell c at i.
+    // The candidate with the cell c at i.
     pub fn with(mut self, i: usize, c: Cell) -> Candidate
         requires { i < 7 }
         ensures { Changed self i c result }
     {
-        self.terminals[i] = c.terminal;
-        self.steps[i] = c.step;
-        self.columns[i] = c.column;
+        self.cells[i] = c;
         self
     }
 
-    // New arrays, with the least cell at i.
+    // The candidate with the least cell at i.
     fn lowered(self, set: u64, low: u8, n: usize, i: usize) -> Candidate
         requires le_n { (1 ≤ n) × (n ≤ 7) × (i < n) }
         requires lowest { Lowest set low }
@@ -152,55 +126,44 @@ impl Candidate {
         let m = Candidate::largest_step(i);
         let p = self.column_before(i);
         let w = least_spot(n as u16, m, p);
-        let d = Cell {
-            terminal: low,
-            step: w.step,
-            column: w.column,
-        };
-        self.with(i, d)
+        self.with(
+            i,
+            Cell {
+                terminal: low,
+                step: w.step,
+                column: w.column,
+            },
+        )
     }
 
-    // New arrays, with the least cells from `from` on.
+    // The candidate with the least cells from `from` on.
     fn filled(self, set: u64, low: u8, n: usize, from: usize) -> Candidate
         requires le_n { (1 ≤ n) × (n ≤ 7) × (from ≤ n) }
         requires lowest { Lowest set low }
         ensures { Filled set n self from result }
     {
         let mut c = self;
-        let mut i = from;
-        while i < n {
+        for i in from..n {
             c = c.lowered(set, low, n, i);
-            i += 1;
         }
         c
     }
 
-    // New arrays, with the next cell at i and the least cells behind it, if there is a next cell.
-    fn raised(self, set: u64, low: u8, n: usize, i: usize) -> Stepped
+    // The candidate with the next cell at i and the least cells behind it, if there is a next cell.
+    fn raised(self, set: u64, low: u8, n: usize, i: usize) -> Option<Stepped>
         requires le_n { (1 ≤ n) × (n ≤ 7) × (i < n) }
         requires lowest { Lowest set low }
         requires fits { Fits (Among set) n (largest_step_of i) (column_before_of self i)
             (cell_at self i) }
-        ensures { Raises set n self i result.more result.upto result.to }
+        ensures { Raises set n self i result }
     {
         let m = Candidate::largest_step(i);
         let p = self.column_before(i);
-        let d = self.cell(i);
-        let a = advance(set, n as u16, m, p, d);
-        let Advanced::To(e) = a else {
-            return Stepped {
-                more: false,
-                upto: 0,
-                to: self,
-            };
-        };
+        let d = self.cells[i];
+        let e = advance(set, n as u16, m, p, d)?;
         let c = self.with(i, e);
-        let r = c.filled(set, low, n, i + 1);
-        Stepped {
-            more: true,
-            upto: i + 1,
-            to: r,
-        }
+        let to = c.filled(set, low, n, i + 1);
+        Some(Stepped { upto: i + 1, to })
     }
 
     // The first candidate of length n, over a set whose least terminal is low.
@@ -209,68 +172,64 @@ impl Candidate {
         requires lowest { Lowest set low }
         ensures { First set n (cells result 0 n) }
     {
-        let c = Candidate {
-            terminals: [0; 7],
-            steps: [0; 7],
-            columns: [0; 7],
+        let none = Cell {
+            terminal: 0,
+            step: 0,
+            column: 0,
         };
+        let c = Candidate { cells: [none; 7] };
         c.filled(set, low, n, 0)
     }
 
     // The least candidate of length n after all that share the first b cells, if there is one: the
     // last of these cells that has a next one takes it.
-    pub fn successor(self, set: u64, low: u8, n: usize, b: usize) -> Stepped
+    pub fn successor(self, set: u64, low: u8, n: usize, b: usize) -> Option<Stepped>
         requires le_n { (1 ≤ n) × (n ≤ 7) × (b ≤ n) }
         requires lowest { Lowest set low }
         requires candidate { Of.Candidate (Among set) n (cells self 0 n) }
-        ensures { Succeeds set n b (cells self 0 n) result.more result.upto
-            (cells result.to 0 n) }
+        ensures { Succeeds set n b (cells self 0 n) result }
     {
-        let mut i = b;
-        while 0 < i {
-            i -= 1;
-            let r = self.raised(set, low, n, i);
-            if r.more {
-                return r;
+        for i in (0..b).rev() {
+            if let Some(r) = self.raised(set, low, n, i) {
+                return Some(r);
             }
         }
-        Stepped {
-            more: false,
-            upto: 0,
-            to: self,
-        }
+        None
     }
 
-    // The candidate's sentence: the first token on line 1, each next its step further, all of width
-    // 1.
-    pub fn sentence(self, n: usize) -> Sentence
-        requires { (n ≤ 7) × LowSteps (cells self 0 n) }
-        ensures { Spells (cells self 0 n) n result }
+    // The candidate's tokens, in N places: the first on line 1, each next its step further, all of
+    // width 1.
+    pub fn tokens<const N: usize>(self, n: usize) -> [Token; N]
+        requires { (n ≤ 7) × (n ≤ N) × LowSteps (cells self 0 n) }
+        ensures { Placed (cells self 0 n) n N result }
     {
         let mut tokens = [Token {
             terminal: 0,
             line: Line(0),
             column: Column(0),
             width: Width(0),
-        }; 64];
+        }; N];
         let mut line: u16 = 1;
-        let mut i: usize = 0;
-        while i < n {
-            let d = self.cell(i);
-            let s = d.step as u16;
-            line = line + s;
+        for i in 0..n {
+            let d = self.cells[i];
+            line += d.step as u16;
             tokens[i] = Token {
                 terminal: d.terminal,
                 line: Line(line),
                 column: Column(d.column),
                 width: Width(1),
             };
-            i += 1;
         }
-        Sentence {
-            tokens: tokens,
-            count: n,
-        }
+        tokens
+    }
+
+    // The candidate's sentence.
+    pub fn sentence(self, n: usize) -> Sentence
+        requires { (n ≤ 7) × LowSteps (cells self 0 n) }
+        ensures { Spells (cells self 0 n) n result }
+    {
+        let tokens = self.tokens(n);
+        Sentence { tokens, count: n }
     }
 }
 
@@ -280,10 +239,8 @@ fn with_range(set: u64, a: u8, b: u8) -> u64
     ensures { Ranging set a b result }
 {
     let mut u = set;
-    let mut i = a;
-    while i <= b {
+    for i in a..=b {
         u = sets::with(u, i);
-        i += 1;
     }
     u
 }
@@ -307,15 +264,18 @@ pub fn terminals(g: Grammar) -> u64
     ensures { Terminals (rules_of g) result }
 {
     let mut set: u64 = 0;
-    let n = g.count;
-    let mut i: usize = 0;
-    while i < n {
-        let r = g.rules[i];
-        let k = r.clause;
-        set = with_terminal(set, k);
-        i += 1;
+    for r in &g.rules[..g.count] {
+        set = with_terminal(set, r.clause);
     }
     set
+}
+
+// How many members of the set are below x.
+pub fn members_below(set: u64, x: u8) -> u64
+    requires { x < 64 }
+    ensures { result ≡ ones (set % 2 ^ x) }
+{
+    u64::count_ones(set % (1u64 << x)) as u64
 }
 
 // T: how many terminals the set has.
@@ -336,13 +296,11 @@ pub fn within_limit(t: u64, k: u64) -> bool
 {
     let factor = 3 * t * k;
     let mut m: u64 = t * k;
-    let mut i: u64 = 1;
-    while i < k {
+    for i in 1..k {
         if LIMIT < m {
             return false;
         }
-        m = m * factor;
-        i += 1;
+        m *= factor;
     }
     m <= LIMIT
 }

@@ -84,15 +84,6 @@ with_other s a b e r k n = go (is_atom_of a r.clause) refl
 
 -- ---- who replaces whom
 
--- one number more
-pub part_more : (s t a : ℕ) → ((x : ℕ) → x < a → In s x → In t x) → (In s a → In t a) → (x : ℕ)
-    → x < a + 1 → In s x → In t x
-part_more s t a h k x b m = go (dec_lt x a)
-  where
-    go : Dec (x < a) → In t x
-    go (yes l) = h x l m
-    go (no n) = let e : x ≡ a = omega arith in subst (In t) (sym e) (k (subst (In s) e m))
-
 -- a left is a number below 64
 pub left_small : (g : Grammar) → Formed g → {A a : ℕ} → HasAtom (rules_of g) A a → A < 64
 left_small g f m = (mem_every SmallRule (rules_of g) f.small m.rule).left

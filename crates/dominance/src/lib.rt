@@ -2,8 +2,7 @@
 // has two trees with the one has two with the other, and comes first.
 #![tactic(auto)]
 
-ghost use Rattle.std.specs.Prelude.{◌≡◌, true, false, ◌+◌, ◌<◌};
-ghost use Rattle.sets.specs.Sets.{In};
+ghost use Rattle.std.specs.Prelude.{◌≡◌, true, ◌+◌, ◌<◌};
 ghost use Rattle.grammar.specs.Content.{rules_of, SmallRule, Formed};
 ghost use Rattle.dominance.specs.Dominance.{add_left, Lefts, Subset, Serves, Replaced, Spares};
 ghost use Rattle.dominance.specs.Dominance.{Spared};
@@ -16,17 +15,14 @@ fn with_left(set: u64, r: Rule, a: u8) -> u64
     requires { SmallRule r }
     ensures { result ≡ add_left set r a }
 {
-    let c = r.clause;
-    match c {
+    match r.clause {
         Clause::Empty => set,
         Clause::Atom(b, e) => {
-            if a < b {
-                return set;
+            if b <= a && a <= e {
+                with(set, r.left)
+            } else {
+                set
             }
-            if e < a {
-                return set;
-            }
-            with(set, r.left)
         }
         Clause::Unary(_, _) => set,
         Clause::Binary(_, _, _) => set,
@@ -39,38 +35,17 @@ fn lefts(g: Grammar, a: u8) -> u64
     ensures { Lefts (rules_of g) a result }
 {
     let mut set: u64 = 0;
-    let mut i: usize = 0;
-    while i < g.count {
-        let r = g.rules[i];
-        set = with_left(set, r, a);
-        i += 1;
+    for r in &g.rules[..g.count] {
+        set = with_left(set, *r, a);
     }
     set
-}
-
-// Is a a member of s, and none of t?
-fn lacks(s: u64, t: u64, a: u8) -> bool
-    requires { a < 64 }
-    ensures { result ≡ false → In s a → In t a }
-{
-    if !has(s, a) {
-        return false;
-    }
-    !has(t, a)
 }
 
 // Is each member of s one of t?
 fn within(s: u64, t: u64) -> bool
     ensures { result ≡ true → Subset s t }
 {
-    let mut a: u8 = 0;
-    while a < 64 {
-        if lacks(s, t, a) {
-            return false;
-        }
-        a += 1;
-    }
-    true
+    s | t == t
 }
 
 // Is y one of the terminals kept, and has it all the lefts in s?
@@ -93,12 +68,10 @@ fn replaced(g: Grammar, kept: u64, x: u8) -> bool
     ensures { result ≡ true → Replaced (rules_of g) kept x }
 {
     let s = lefts(g, x);
-    let mut y: u8 = 0;
-    while y < x {
+    for y in 0..x {
         if serves(g, kept, s, y) {
             return true;
         }
-        y += 1;
     }
     false
 }
@@ -125,10 +98,8 @@ pub fn needed(g: Grammar, set: u64) -> u64
     ensures { Spared (rules_of g) set result }
 {
     let mut kept: u64 = 0;
-    let mut x: u8 = 0;
-    while x < 64 {
+    for x in 0u8..64 {
         kept = with_needed(g, set, kept, x);
-        x += 1;
     }
     kept
 }

@@ -1,21 +1,66 @@
--- The columns of a candidate's arrays, as the loops over them meet them.
-use mathlib.Core.Path.{◌≡◌}
-use mathlib.Core.Bool.{true, false}
-use Prim.Native.Nat.{ℕ, ◌+◌, ◌-◌, ◌≤◌, ◌<◌}
-use borrow.Author.Tests.{eq-eqb, ne_eqb}
-use lib.ListN.{get_or}
+-- Whether one of a candidate's first cells is in a column, as a search through them tells.
+use mathlib.Core.Path.{◌≡◌, refl, sym, ◌∙◌, ap}
+use mathlib.Core.Bool.{Bool, true, false, ◌||◌}
+use mathlib.Core.Logic.{◌↔◌}
+use mathlib.Core.List.{List, [], ◌∷◌}
+use Prim.Native.Nat.{ℕ, zero, suc, ◌+◌, ◌≤◌, ◌<◌}
+use native.Mathlib.Omega.{arith}
+use lib.Dec.{eqb}
+use lib.ListN.{length, get_or, take, drop}
+use lib.Seq.{drop-cons}
+use borrow.Author.Tests.{eq-eqb, eqb-true}
+use Rattle.std.specs.Prelude.{IsTrue, SomeIndex}
+use Rattle.sets.proofs.Says.{true_not_false}
+use Rattle.grammar.specs.declared.Cell.{Cell}
 use Rattle.candidates.specs.declared.Candidate.{Candidate}
-use Rattle.candidates.specs.Arrays.{cells}
-use Rattle.candidates.proofs.Windows.{cells_turn, cells_end}
+use Rattle.candidates.specs.Arrays.{cells, no_cell}
 use Rattle.equivalents.specs.Twins.{used}
 
-module _ (c : Candidate) (b i j : ℕ) where
-  pub used_here : i < b → get_or c.columns i 0 ≡ j → used j (cells c i (b - i)) ≡ true
-  used_here h e = rw (cells_turn b i c h, eq-eqb (get_or c.columns i 0) j e)
+-- j cells from i on stand there in the array
+cells_from : (c : Candidate) (i j : ℕ) → i + j ≤ length c.cells
+    → cells c i j ≡ take j (drop i c.cells)
+cells_from c i zero h = refl
+cells_from c i (suc j) h =
+    ap (λ (cs : List Cell). get_or c.cells i no_cell ∷ cs)
+    (cells_from c (suc i) j (omega arith))
+    ∙ sym (ap (take (suc j)) (drop-cons c.cells i no_cell (omega arith)))
 
-  pub used_past : i < b → (get_or c.columns i 0 ≡ j → ⊥)
-      → used j (cells c i (b - i)) ≡ used j (cells c (i + 1) (b - (i + 1)))
-  used_past h n = rw (cells_turn b i c h, ne_eqb (get_or c.columns i 0) j n)
+-- one of them is in column j
+abbrev pub InColumn : ℕ → List Cell → Type 0
+InColumn j cs = SomeIndex cs (λ i. (get_or cs i no_cell).column ≡ j)
 
-  pub used_end : b ≤ i → used j (cells c i (b - i)) ≡ false
-  used_end h = rw (cells_end b i c h)
+used_in : (j : ℕ) (cs : List Cell) → used j cs ≡ true → InColumn j cs
+used_in j [] e = absurd (true_not_false (sym e))
+used_in j (c ∷ cs) e = go (eqb c.column j) refl (used_in j cs) e
+  where
+    go : (b : Bool) → eqb c.column j ≡ b → (used j cs ≡ true → InColumn j cs)
+        → (b || used j cs) ≡ true → InColumn j (c ∷ cs)
+    go true q ih h = (0, omega arith, eqb-true c.column j q)
+    go false q ih h = let k = ih h in (suc k.0, omega (arith, k.1), k.2)
+
+in_used : (j : ℕ) (cs : List Cell) → InColumn j cs → used j cs ≡ true
+in_used j [] k = absurd (omega (arith, k.1))
+in_used j (c ∷ cs) k = go (in_used j cs) k.0 k.1 k.2
+  where
+    or_true : (b : Bool) → (b || true) ≡ true
+    or_true true = refl
+    or_true false = refl
+
+    go : (InColumn j cs → used j cs ≡ true) → (i : ℕ) → i < length (c ∷ cs)
+        → (get_or (c ∷ cs) i no_cell).column ≡ j
+        → used j (c ∷ cs) ≡ true
+    go ih zero h e = rw (eq-eqb c.column j e)
+    go ih (suc i) h e =
+        rw (ih (i, omega (arith, h), e)) (or_true (eqb c.column j))
+
+same : (r u : Bool) → (r ≡ true → u ≡ true) → (u ≡ true → r ≡ true) → r ≡ u
+same true u f g = sym (f refl)
+same false true f g = g refl
+same false false f g = refl
+
+pub used_is : (c : Candidate) (b j : ℕ) (r : Bool) → b ≤ length c.cells
+    → IsTrue r ↔ InColumn j (take b c.cells) → r ≡ used j (cells c 0 b)
+used_is c b j r h k =
+    let e : cells c 0 b ≡ take b c.cells = cells_from c 0 b (omega arith) in
+    rw e
+    (same r _ (λ q. in_used j (take b c.cells) (k.0 q)) (λ q. k.1 (used_in j (take b c.cells) q)))

@@ -17,14 +17,7 @@ fn uses(c: Candidate, b: usize, j: u16) -> bool
     requires { b ≤ 7 }
     ensures { result ≡ used j (cells c 0 b) }
 {
-    let mut i: usize = 0;
-    while i < b {
-        if c.columns[i] == j {
-            return true;
-        }
-        i += 1;
-    }
-    false
+    c.cells[..b].iter().any(|d| d.column == j)
 }
 
 // How many columns the first b cells leave out right below one of theirs that none of the first h
@@ -35,19 +28,12 @@ fn lacks(c: Candidate, n: usize, b: usize, h: usize) -> usize
 {
     let mut w = false;
     let mut v: usize = 0;
-    let mut j: u16 = n as u16;
-    while 0 < j {
+    for j in (1..=n as u16).rev() {
         if uses(c, b, j) {
             w = !uses(c, h, j);
-            j -= 1;
-            continue;
-        }
-        if w {
+        } else if w {
             v += 1;
-            j -= 1;
-            continue;
         }
-        j -= 1;
     }
     v
 }
@@ -59,8 +45,7 @@ pub fn earlier_twin(c: Candidate, n: usize, b: usize, h: usize) -> bool
     requires { (h < b) × (b ≤ n) × (n ≤ 7) }
     ensures { result ≡ true → Slack n b h (cells c 0 n) }
 {
-    let d = c.cell(b - 1);
-    if d.step == Candidate::LARGEST_STEP {
+    if c.cells[b - 1].step == Candidate::LARGEST_STEP {
         return true;
     }
     n - b < lacks(c, n, b, h)
@@ -76,8 +61,7 @@ pub fn passable(set: u64, kept: u64, c: Candidate, n: usize, b: usize, h: usize)
     if b <= h {
         return false;
     }
-    let d = c.cell(b - 1);
-    if !has(kept, d.terminal) {
+    if !has(kept, c.cells[b - 1].terminal) {
         return true;
     }
     earlier_twin(c, n, b, h)

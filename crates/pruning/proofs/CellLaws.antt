@@ -1,4 +1,4 @@
--- A candidate's arrays with one cell changed, as lists of cells.
+-- A candidate with one cell changed, as lists of cells.
 use mathlib.Core.Path.{◌≡◌, refl, sym, ap, ◌∙◌, subst}
 use mathlib.Core.List.{List, [], ◌∷◌}
 use mathlib.Core.Logic.{◌≢◌}
@@ -10,11 +10,11 @@ use lib.ListN.{length, get_or, take}
 use Rattle.grammar.specs.declared.Cell.{Cell}
 use Rattle.grammar.specs.Candidates.{Cells}
 use Rattle.candidates.specs.declared.Candidate.{Candidate}
-use Rattle.candidates.specs.Arrays.{cell_at, cells}
+use Rattle.candidates.specs.Arrays.{no_cell, cell_at, cells}
 use Rattle.candidates.specs.Spelling.{LowSteps}
 use Rattle.candidates.specs.Windows.{Changed, column_before_of}
 use Rattle.candidates.proofs.Windows.{cells_size, take_cells}
-use Rattle.pruning.specs.Refuting.{no_cell, terminal_at_of, TerminalChanged, Moved, prior, most}
+use Rattle.pruning.specs.Refuting.{terminal_at_of, TerminalChanged, Moved, prior, most}
 
 -- the cell at i of the list
 cells_from : (c : Candidate) (a n i : ℕ) → i < n
@@ -101,20 +101,20 @@ module _ (c r : Candidate) (n i : ℕ) (d : Cell) (h : i < n) (ch : Changed c i 
     rest = λ q l. ap (λ (x : Cell). x.terminal) (changed_rest q (λ e. omega arith));
   }
 
--- the column before, in the arrays and in the list
+-- the column before, in the array and in the list
 prior_from : (c : Candidate) (p a n i : ℕ) → i < n
-    → prior p (cells c a n) (suc i) ≡ get_or c.columns (a + i) 0
+    → prior p (cells c a n) (suc i) ≡ (cell_at c (a + i)).column
 prior_from c p a zero i h = absurd (not-suc-le-zero h)
 prior_from c p a (suc n) zero h =
-    ap (λ (x : ℕ). get_or c.columns x 0) (let z : a ≡ a + 0 = omega arith in z)
-prior_from c p a (suc n) (suc i) h = prior_from c (get_or c.columns a 0) (suc a) n i (omega arith)
-    ∙ ap (λ (x : ℕ). get_or c.columns x 0) (let z : suc a + i ≡ a + suc i = omega arith in z)
+    ap (λ (x : ℕ). (cell_at c x).column) (let z : a ≡ a + 0 = omega arith in z)
+prior_from c p a (suc n) (suc i) h = prior_from c (cell_at c a).column (suc a) n i (omega arith)
+    ∙ ap (λ (x : ℕ). (cell_at c x).column) (let z : suc a + i ≡ a + suc i = omega arith in z)
 
 pub prior_before : (c : Candidate) (n i : ℕ) → i < n
     → prior 0 (cells c 0 n) i ≡ column_before_of c i
 prior_before c n zero h = refl
 prior_before c n (suc i) h = prior_from c 0 0 n i (omega arith)
-    ∙ ap (λ (x : ℕ). get_or c.columns x 0) (let z : 0 + i ≡ i = omega arith in z)
+    ∙ ap (λ (x : ℕ). (cell_at c x).column) (let z : 0 + i ≡ i = omega arith in z)
 
 -- the first token has no step
 pub first_step : {i x : ℕ} → i ≡ 0 → x ≤ most 0 i → x ≡ 0

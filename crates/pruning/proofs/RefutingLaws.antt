@@ -26,7 +26,8 @@ use Rattle.candidates.specs.Windows.{Fits, Fit}
 use Rattle.candidates.proofs.ListOrder.{candidate_fit}
 use Rattle.candidates.proofs.Spelling.{sentence_shares}
 use Rattle.chart.specs.Leaves.{LeafAt, May}
-use Rattle.pruning.specs.Refuting.{no_cell, terminal_at_of, Spelt, Twinned, TerminalChanged}
+use Rattle.candidates.specs.Arrays.{no_cell}
+use Rattle.pruning.specs.Refuting.{terminal_at_of, Spelt, Twinned, TerminalChanged}
 use Rattle.pruning.specs.Refuting.{TerminalsTwinned, Moved}
 use Rattle.pruning.specs.Refuting.{PositionsTwinned, prior, most, Rises}
 use Rattle.chart.proofs.LeafLaws.{leaf_allows}

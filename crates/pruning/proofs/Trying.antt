@@ -48,7 +48,7 @@ module _ {g : Rules} {n i : ℕ} {cs : List Cell} where
         past_same (2 * pairs n) ws;
   }
 
-  pub ready_draft : {ws : List ℕ} (d : Draft) → i < n → length cs ≡ n → drafted d ≡ sentence cs
+  pub ready_draft : {ws : List ℕ} (d : Draft 7) → i < n → length cs ≡ n → drafted d ≡ sentence cs
       → d.count ≡ n → d.known ≡ i + 1 → PositionsFilled g n i cs ws
       → Ready g (half d) d.count ws i n
   ready_draft {ws} d h size e c k st =
@@ -56,7 +56,7 @@ module _ {g : Rules} {n i : ℕ} {cs : List Cell} where
       (subst (λ (m : ℕ). Ready g (record { word = drafted d; known = i + 1 }) m ws i n) (sym c)
       (standing_ready h size e st))
 
-  pub tried_settled : {hold : ℕ} {ws ws' : List ℕ} {r : Bool} (d : Draft) → i < n → length cs ≡ n
+  pub tried_settled : {hold : ℕ} {ws ws' : List ℕ} {r : Bool} (d : Draft 7) → i < n → length cs ≡ n
       → drafted d ≡ sentence cs → d.count ≡ n → d.known ≡ i + 1 → PositionsFilled g n i cs ws
       → Settles r g (half d) d.count ws ws' → PositionTried r g n hold i cs ws ws'
   tried_settled {hold} {ws} {ws'} {r} d h size e c k st y = record {
@@ -75,14 +75,14 @@ module _ {g : Rules} {n i : ℕ} {cs : List Cell} where
       on = standing_on h size e st z.right z.given
 
 -- a draft is a half-known word
-ready_at : {g : Rules} {n k from to : ℕ} {ws : List ℕ} (d : Draft) → d.count ≡ n → d.known ≡ k
+ready_at : {g : Rules} {n k from to : ℕ} {ws : List ℕ} (d : Draft 7) → d.count ≡ n → d.known ≡ k
     → Ready g (record { word = drafted d; known = k }) n ws from to
     → Ready g (half d) d.count ws from to
 ready_at {g} {n} {k} {from} {to} {ws} d c e x = subst
     (λ (y : ℕ). Ready g (record { word = drafted d; known = y }) d.count ws from to) (sym e)
     (subst (λ (m : ℕ). Ready g (record { word = drafted d; known = k }) m ws from to) (sym c) x)
 
-settles_at : {r : Bool} {g : Rules} {n k : ℕ} {ws ws' : List ℕ} (d : Draft) → d.count ≡ n
+settles_at : {r : Bool} {g : Rules} {n k : ℕ} {ws ws' : List ℕ} (d : Draft 7) → d.count ≡ n
     → d.known ≡ k → Settles r g (half d) d.count ws ws'
     → Settles r g (record { word = drafted d; known = k }) n ws ws'
 settles_at {r} {g} {n} {k} {ws} {ws'} d c e y = subst
@@ -91,7 +91,7 @@ settles_at {r} {g} {n} {k} {ws} {ws'} d c e y = subst
 
 module _ {g : Rules} {n b : ℕ} {cs : List Cell} where
   -- the words are ready to be filled from token b on
-  pub ready_again : {ws : List ℕ} (d : Draft) → b ≤ n → length cs ≡ n → drafted d ≡ sentence cs
+  pub ready_again : {ws : List ℕ} (d : Draft 7) → b ≤ n → length cs ≡ n → drafted d ≡ sentence cs
       → d.count ≡ n → d.known ≡ b → PositionsFilled g n b cs ws
       → Ready g (half d) d.count ws b n
   ready_again {ws} d h size e c k st = ready_at d c k (record {
@@ -103,7 +103,7 @@ module _ {g : Rules} {n b : ℕ} {cs : List Cell} where
     beyond = open_none g n ws n (omega arith);
   })
 
-  pub spent : {hold : ℕ} {r r₀ : Bool} {ws ws₁ ws₂ : List ℕ} (d : Draft) → r₀ ≡ false
+  pub spent : {hold : ℕ} {r r₀ : Bool} {ws ws₁ ws₂ : List ℕ} (d : Draft 7) → r₀ ≡ false
       → drafted d ≡ sentence cs → d.count ≡ n → d.known ≡ b
       → PositionsSearched r₀ g n hold b cs ws ws₁
       → Settles r g (half d) d.count ws₁ ws₂ → AllPositionsSearched false g n hold b cs ws ws₂
@@ -122,12 +122,12 @@ module _ {g : Rules} {s n b j : ℕ} {cs : List Cell} (low : b ≤ j) (h : j < n
       → TerminalOpen g s n b j cs ws → TerminalOpen g s n b j cs ws'
   wrote_loose w l = loose_kept low h w.kept l
 
-  pub ready_loose : {ws : List ℕ} (d : Draft) → length cs ≡ n → drafted d ≡ sentence cs
+  pub ready_loose : {ws : List ℕ} (d : Draft 7) → length cs ≡ n → drafted d ≡ sentence cs
       → d.count ≡ n → d.known ≡ b → TerminalOpen g s n b j cs ws
       → Ready g (half d) d.count ws b (j + 1)
   ready_loose d size e c k l = ready_at d c k (loose_ready low h (with_terminal_self j cs) size e l)
 
-  pub try_terminal_settled : {r : Bool} {ws ws₁ ws₂ : List ℕ} {x p q : ℕ} (d : Draft)
+  pub try_terminal_settled : {r : Bool} {ws ws₁ ws₂ : List ℕ} {x p q : ℕ} (d : Draft 7)
       → length cs ≡ n
       → drafted d ≡ sentence cs → d.count ≡ n → d.known ≡ b → terminal_at_of cs j ≡ x
       → WrotePair ws ws₁ (pair_at n j 1) p q → Leaf g x p q → TerminalOpen g s n b j cs ws
@@ -195,7 +195,7 @@ standing_of {g} {s} {n} {b} {j} {cs} {ws} e p =
 
 -- the words that are laid may be filled
 pub laid_ready : {g : Rules} {s n b : ℕ} {table : List ℕ} {cs : List Cell} {ws ws₁ : List ℕ}
-    (d : Draft) → b ≤ n → Candidate (Among s) n cs → drafted d ≡ sentence cs → d.count ≡ n
+    (d : Draft 7) → b ≤ n → Candidate (Among s) n cs → drafted d ≡ sentence cs → d.count ≡ n
     → d.known ≡ b → Tabled g s table → LeavesPut table cs n b ws ws₁
     → Ready g (half d) d.count ws₁ 0 n
 laid_ready {g} {s} {n} {b} {cs = cs} {ws₁ = ws₁} d low k e c kn t l = ready_at d c kn (record {
@@ -210,7 +210,7 @@ laid_ready {g} {s} {n} {b} {cs = cs} {ws₁ = ws₁} d low k e c kn t l = ready_
 
 -- and are poised then, all terminals from b on being open
 pub poised_start : {g : Rules} {s n b : ℕ} {table : List ℕ} {cs : List Cell} {ws ws₁ ws₂ : List ℕ}
-    (d : Draft) → b ≤ n → drafted d ≡ sentence cs → d.count ≡ n → d.known ≡ b → Tabled g s table
+    (d : Draft 7) → b ≤ n → drafted d ≡ sentence cs → d.count ≡ n → d.known ≡ b → Tabled g s table
     → LeavesPut table cs n b ws ws₁ → Charted ws₁ ws₂ g (half d) d.count
     → TerminalsFilled g s n b n cs ws₂
 poised_start {g} {s} {n} {b} {cs = cs} {ws} {ws₁} {ws₂} d low e c k t l y = record {
@@ -224,7 +224,7 @@ poised_start {g} {s} {n} {b} {cs = cs} {ws} {ws₁} {ws₂} d low e c k t l y = 
     z = subst (λ (x : ℕ). Charted ws₁ ws₂ g (record { word = drafted d; known = x }) n) k
         (subst (λ (m : ℕ). Charted ws₁ ws₂ g (half d) m) c y)
 
-pub charted_past : {g : Rules} {n : ℕ} {ws ws' : List ℕ} (d : Draft) → d.count ≡ n
+pub charted_past : {g : Rules} {n : ℕ} {ws ws' : List ℕ} (d : Draft 7) → d.count ≡ n
     → Charted ws ws' g (half d) d.count → Past (2 * pairs n) ws ws'
 charted_past {g} {n} {ws} {ws'} d c y = subst (λ (m : ℕ). Past (2 * pairs m) ws ws') c y.past
 

@@ -6,6 +6,7 @@ use Rattle.std.specs.Prelude.{◌%◌, ◌≤◌, ◌<◌, length, get_or, take}
 use Rattle.grammar.specs.declared.Cell.{Cell}
 use Rattle.grammar.specs.Trees.{Rules, TwoTrees}
 use Rattle.grammar.specs.Candidates.{Candidate, sentence}
+use Rattle.candidates.specs.Arrays.{no_cell}
 use Rattle.candidates.specs.Terminals.{Among}
 use Rattle.candidates.specs.Succession.{Shares}
 use Rattle.equivalents.specs.Twins.{Twin}
@@ -14,10 +15,6 @@ use Rattle.grammar.specs.SpanSheet.{pairs}
 use Rattle.chart.specs.Openness.{Open}
 use Rattle.chart.specs.Sheets.{Exact}
 use Rattle.chart.specs.Leaves.{LeafAt, May}
-
--- what stands past the cells
-abbrev pub no_cell : Cell
-no_cell = record { terminal = 0; step = 0; column = 0 }
 
 -- the terminal of the cell at i
 abbrev pub terminal_at_of : List Cell → ℕ → ℕ

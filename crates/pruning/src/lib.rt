@@ -16,21 +16,21 @@ ghost use Rattle.candidates.specs.Arrays.{cells};
 ghost use Rattle.candidates.specs.Spelling.{LowSteps};
 ghost use Rattle.chart.specs.Leaves.{EmptyPair};
 ghost use Rattle.equivalents.specs.Twins.{Renames, Replaceable};
-ghost use Rattle.pruning.specs.Tables.{Small, Slot, LeavesPut, United, Gathered, Tabled};
+ghost use Rattle.pruning.specs.Tables.{Small, Slot, LeavesPut, Gathered, Tabled};
 ghost use Rattle.pruning.specs.Refuting.{PositionsFilled, Moved, Rises, terminal_at_of};
 ghost use Rattle.pruning.specs.Refuting.{TerminalChanged, TerminalOpen};
 ghost use Rattle.pruning.specs.Refuting.{TerminalsFilled, PositionTried, PositionsSearched};
 ghost use Rattle.pruning.specs.Refuting.{AllPositionsSearched, TerminalTried, Done};
 ghost use Rattle.grammar.specs.Content.{rules_of, Formed};
 ghost use Rattle.refilling.specs.Kept.{Mirrored};
-ghost use Rattle.refilling.specs.Short.{wide};
 
 use candidates::Candidate;
 use cuts::Pair;
 use equivalents::earlier_twin;
 use filling::{empty_pair, leaf_pair};
-use grammar::{Cell, Column, Grammar, Line, Token, Width};
-use refilling::{ShortDraft, no_two, put_empty, put_leaf, refill};
+use grammar::{Cell, Grammar};
+use marks::Draft;
+use refilling::{no_two, put_empty, put_leaf, refill};
 use sets::has;
 use spans::{in_second, write};
 
@@ -38,33 +38,13 @@ use spans::{in_second, write};
 pub const TABLE: usize = 132;
 
 // The candidate's sentence of n tokens, of which the first `known` count.
-fn draft(c: Candidate, n: usize, known: usize) -> ShortDraft
+fn draft(c: Candidate, n: usize, known: usize) -> Draft<7>
     requires { (n ≤ 7) × LowSteps (cells c 0 n) }
-    ensures { (drafted (wide result) ≡ sentence (cells c 0 n)) × (result.count ≡ n)
+    ensures { (drafted result ≡ sentence (cells c 0 n)) × (result.count ≡ n)
         × (result.known ≡ known) }
 {
-    let mut tokens = [Token {
-        terminal: 0,
-        line: Line(0),
-        column: Column(0),
-        width: Width(0),
-    }; 7];
-    let mut line: u16 = 1;
-    let mut i: usize = 0;
-    while i < n {
-        let d = c.cell(i);
-        let s = d.step as u16;
-        line = line + s;
-        tokens[i] = Token {
-            terminal: d.terminal,
-            line: Line(line),
-            column: Column(d.column),
-            width: Width(1),
-        };
-        i += 1;
-    }
-    ShortDraft {
-        tokens: tokens,
+    Draft {
+        tokens: c.tokens(n),
         count: n,
         known,
     }
@@ -76,15 +56,14 @@ fn moved(c: Candidate, n: usize, i: usize, k: usize) -> Candidate
     requires low_steps { LowSteps (cells c 0 n) }
     ensures { Moved n i k (cells c 0 n) (cells result 0 n) × LowSteps (cells result 0 n) }
 {
-    let d = c.cell(i);
     let step = (k / n) as u8;
     let column = (k % n + 1) as u16;
     c.with(
         i,
         Cell {
-            terminal: d.terminal,
             step,
             column,
+            ..c.cells[i]
         },
     )
 }
@@ -94,10 +73,9 @@ fn rises(c: Candidate, n: usize, i: usize) -> bool
     requires { (n ≤ 7) × (i < n) }
     ensures { result ≡ false → Rises (cells c 0 n) i → ⊥ }
 {
-    let d = c.cell(i);
-    let p = c.column_before(i);
+    let d = c.cells[i];
     if d.step == 0 {
-        return p < d.column;
+        return c.column_before(i) < d.column;
     }
     i != 0
 }
@@ -154,17 +132,14 @@ fn try_positions(
     if i == n {
         return true;
     }
-    let mut k: usize = 0;
-    while k < 3 * n {
+    for k in 0..3 * n {
         let m = moved(c, n, i, k);
         if try_position(g, m, n, i, h, words, cuts) {
-            k += 1;
             continue;
         }
         if try_positions(g, m, n, i + 1, h, words, cuts) {
             return true;
         }
-        k += 1;
     }
     false
 }
@@ -204,13 +179,11 @@ fn with_terminal(c: Candidate, n: usize, j: usize, x: u8) -> Candidate
     requires low_steps { LowSteps (cells c 0 n) }
     ensures { TerminalChanged j x (cells c 0 n) (cells result 0 n) × LowSteps (cells result 0 n) }
 {
-    let d = c.cell(j);
     c.with(
         j,
         Cell {
             terminal: x,
-            step: d.step,
-            column: d.column,
+            ..c.cells[j]
         },
     )
 }
@@ -276,21 +249,17 @@ fn try_terminals(
         return positions(g, c, n, b, h, words, cuts);
     }
     let i = j - 1;
-    let mut x: u8 = 0;
-    while x < 64 {
+    for x in 0u8..64 {
         if !has(kept, x) {
-            x += 1;
             continue;
         }
         let m = with_terminal(c, n, i, x);
         if try_terminal(g, set, table, m, n, b, i, x, words, cuts) {
-            x += 1;
             continue;
         }
         if try_terminals(g, set, kept, table, m, n, b, h, i, words, cuts) {
             return true;
         }
-        x += 1;
     }
     put_leaf(words, cuts, g, n, i, table[128], table[129]);
     false
@@ -303,10 +272,10 @@ fn slot(c: Candidate, b: usize, n: usize, i: usize) -> usize
     ensures { Slot (cells c 0 n) b i result }
 {
     if i < b {
-        let d = c.cell(i);
-        return d.terminal as usize;
+        c.cells[i].terminal as usize
+    } else {
+        64
     }
-    64
 }
 
 // Give all tokens and the empty word their first pairs.
@@ -327,11 +296,9 @@ fn put_leaves(
         words.new }
     ensures mirrored_2 { Mirrored (rules_of g) n words.new cuts.new }
 {
-    let mut i: usize = 0;
-    while i < n {
+    for i in 0..n {
         let at = 2 * slot(c, b, n, i);
         put_leaf(words, cuts, g, n, i, table[at], table[at + 1]);
-        i += 1;
     }
     put_empty(words, cuts, g, n, table[130], table[131]);
 }
@@ -437,13 +404,6 @@ pub fn has_two(
     in_second(words, n, 0, n, 0)
 }
 
-// Both sets as one.
-fn united(a: u64, b: u64) -> u64
-    ensures { United a b result }
-{
-    a | b
-}
-
 // Fill the table with the pair of each terminal of the set, that of x at 2 x, and answer their
 // union: the pair of a token that may have any of them. The empty word's pair is `one` and `two`.
 fn leaves(g: Grammar, set: u64, one: u64, two: u64, table: &mut [u64]) -> Pair
@@ -455,17 +415,14 @@ fn leaves(g: Grammar, set: u64, one: u64, two: u64, table: &mut [u64]) -> Pair
 {
     let mut any: u64 = 0;
     let mut twice: u64 = 0;
-    let mut x: u8 = 0;
-    while x < 64 {
+    for x in 0u8..64 {
         if !has(set, x) {
-            x += 1;
             continue;
         }
         let l = leaf_pair(g, x, one, two);
         write(table, x as usize, l.one, l.two);
-        any = united(any, l.one);
-        twice = united(twice, l.two);
-        x += 1;
+        any |= l.one;
+        twice |= l.two;
     }
     Pair {
         one: any,

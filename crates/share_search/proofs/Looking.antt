@@ -16,7 +16,7 @@ use Rattle.candidates.specs.Succession.{Shares, First, Follows}
 use Rattle.candidates.proofs.Measure.{left, left_falls}
 use Rattle.arrangement_numbers.specs.Blocks.{number_in, room, least}
 use Rattle.equivalents.specs.Twins.{Replaceable}
-use Rattle.share_search.specs.Searching.{Looked, ShareTurn, Searched, hit}
+use Rattle.share_search.specs.Searching.{Looked, ShareTurn, Hits}
 use Rattle.share_search.proofs.Turns.{begin, onward, whole, first_meets, barren_early}
 use Rattle.share_search.proofs.Turns.{barren_twin}
 
@@ -91,8 +91,12 @@ next_falls {s = s} {n} {cs = cs} few t f = left_falls s n few t.before.candidate
 -- not ruled out, and all cells looked at: it is found, and its number is its block's
 pub hit_of : {g : Rules} {s n lo hi b N : ℕ} {out : Bool} {cs : List Cell} → s < 2 ^ 64
     → ShareTurn g s n lo b cs → Looked out g s n lo b cs → out ≡ false → b ≡ n → N ≡ least s n b cs
-    → N < hi → Searched g s n lo hi n N cs
+    → N < hi → Hits g s n lo hi N cs
 hit_of {s = s} {n} {N = N} {cs = cs} small t l e i q h =
     let z = whole s n cs t.before.candidate.arranged.size in
     let y : N ≡ number_in s n cs = q ∙ ap (λ (x : ℕ). least s n x cs) i ∙ z.0 in
-    hit refl y (omega (arith, y)) (first_meets small t.before (l.meets e i))
+    record {
+      number = y;
+      high = omega (arith, y);
+      lowest = first_meets small t.before (l.meets e i);
+    }

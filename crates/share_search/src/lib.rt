@@ -2,7 +2,7 @@
 // and has two trees.
 #![tactic(auto)]
 
-ghost use Rattle.std.specs.Prelude.{◌≡◌, ◌+◌, ◌*◌, ◌≤◌, ◌<◌, length, true};
+ghost use Rattle.std.specs.Prelude.{◌≡◌, ◌+◌, ◌*◌, ◌≤◌, ◌<◌, length, true, IfSome};
 ghost use Rattle.grammar.specs.Candidates as Of;
 ghost use Rattle.grammar.specs.Content.{rules_of, Formed};
 ghost use Rattle.grammar.specs.SpanSheet.{pairs};
@@ -26,26 +26,24 @@ use grammar::{Grammar, Sentence};
 use pruning::{TABLE, fill_table, has_two, twinned};
 use reachable_rules::reachable;
 use refilling::{KEPT_SHORT, open_sheet, prepare};
-use sets::{Member, first_from};
+use sets::first_from;
 use spans::{clear, size};
 
 // The fewest of the first b cells such that no arrangement that has them has a number below
-// `start`; b + 1 if even one that has all b may have.
-fn held(set: u64, c: Candidate, n: usize, b: usize, start: u64) -> usize
+// `start`, unless even one that has all b may have.
+fn held(set: u64, c: Candidate, n: usize, b: usize, start: u64) -> Option<usize>
     requires few { Few set n }
     requires candidate { Of.Candidate (Among set) n (cells c 0 n) }
     requires b_le_n { b ≤ n }
-    ensures { result ≤ b → start ≤ least set n result (cells c 0 n) }
+    ensures { IfSome result (λ h. (h ≤ b) × (start ≤ least set n h (cells c 0 n))) }
 {
-    let mut h: usize = 0;
-    while h <= b {
+    for h in 0..=b {
         let k = block_of(set, c, n, h);
         if start <= k.low {
-            return h;
+            return Some(h);
         }
-        h += 1;
     }
-    b + 1
+    None
 }
 
 // Has each candidate that shares the first b cells and has two trees a twin that has its first h
@@ -115,41 +113,24 @@ fn look(
     if end < past {
         return false;
     }
-    let h = held(set, c, n, b, start);
-    if b < h {
+    let Some(h) = held(set, c, n, b, start) else {
         return false;
-    }
+    };
     outdone(g, set, kept, table, c, n, b, h, words, cuts)
 }
 
-// What the search finds: a candidate, its length, which is 0 where it finds none, and its number.
+// What the search finds: a candidate and its number.
 #[derive(Clone, Copy)]
 struct Hit {
-    length: usize,
     number: u64,
     candidate: Candidate,
-}
-
-// Nothing found.
-fn nothing() -> Hit
-    ensures { (result.length ≡ 0) × (result.number ≡ 0) }
-{
-    let c = Candidate {
-        terminals: [0; 7],
-        steps: [0; 7],
-        columns: [0; 7],
-    };
-    Hit {
-        length: 0,
-        number: 0,
-        candidate: c,
-    }
 }
 
 // The candidate of n tokens with the lowest number from `start` to below `end` that has two trees,
 // over a set whose least terminal is low. A candidate's first b cells are looked at: where they
 // rule it out, the search goes on past all that share them, else with a cell more; it ends where
 // the numbers of those that share them are past the end.
+// Kept: beside sweeping::search_length; one loop for both would lend the words to two closures.
 fn search(
     g: Grammar,
     set: u64,
@@ -161,14 +142,13 @@ fn search(
     end: u64,
     words: &mut [u64],
     cuts: &mut [u64],
-) -> Hit
+) -> Option<Hit>
     requires few { Few set n × Lowest set low × Renames (rules_of g) set kept }
     requires formed { Formed g }
     requires n_in_bounds { 2 * pairs n ≤ length words.old }
     requires tabled { Tabled (rules_of g) set table.now }
     requires n_in_bounds_2 { (kept_for n ≤ length cuts.old) × Prepared (rules_of g) cuts.old }
-    ensures searched { Searched (rules_of g) set n start end result.length result.number
-        (cells result.candidate 0 n) }
+    ensures searched { Searched (rules_of g) set n start end result }
     ensures past { Past (2 * pairs n) words.old words.new }
 {
     open_sheet(words, cuts, g, n);
@@ -177,25 +157,20 @@ fn search(
     loop {
         let k = block_of(set, c, n, b);
         if end <= k.low {
-            return nothing();
+            return None;
         }
         let past = k.low + k.size;
         if look(g, set, kept, table, c, n, b, start, end, past, words, cuts) {
-            let s = c.successor(set, low, n, b);
-            if !s.more {
-                return nothing();
-            }
-            let t = s.to;
-            c = t;
+            let s = c.successor(set, low, n, b)?;
+            c = s.to;
             b = s.upto;
             continue;
         }
         if b == n {
-            return Hit {
-                length: n,
+            return Some(Hit {
                 number: k.low,
                 candidate: c,
-            };
+            });
         }
         b += 1;
     }
@@ -211,12 +186,11 @@ fn search_over(
     start: u64,
     end: u64,
     words: &mut [u64],
-) -> Hit
+) -> Option<Hit>
     requires few { Few set n × Lowest set low × Renames (rules_of g) set kept }
     requires formed { Formed g }
     requires n_in_bounds { 2 * pairs n ≤ length words.old }
-    ensures searched { Searched (rules_of g) set n start end result.length result.number
-        (cells result.candidate 0 n) }
+    ensures searched { Searched (rules_of g) set n start end result }
     ensures past { Past (2 * pairs n) words.old words.new }
 {
     let mut table: [u64; TABLE] = [0; TABLE];
@@ -239,26 +213,22 @@ fn search_over(
 
 // The lowest number from `start` to below `end` over the terminals of the sheet, by the rules that
 // 0 reaches.
-fn find(g: Grammar, n: usize, start: u64, end: u64, words: &mut [u64]) -> Hit
+fn find(g: Grammar, n: usize, start: u64, end: u64, words: &mut [u64]) -> Option<Hit>
     requires le_n { (1 ≤ n) × (n ≤ 7) }
     requires formed { Formed g }
     requires n_bound { arrangements (terminal_count (rules_of g)) n ≤ 4294967296 }
     requires n_in_bounds { 2 * pairs n ≤ length words.old }
-    ensures found { Found (rules_of g) n start end result.length result.number
-        (cells result.candidate 0 n) }
+    ensures found { Found (rules_of g) n start end result }
     ensures past { Past (2 * pairs n) words.old words.new }
 {
     let set = terminals(g);
-    let least = first_from(set, 0);
-    let Member::At(low) = least else {
-        return nothing();
-    };
+    let low = first_from(set, 0)?;
     let kept = needed(g, set);
     let few = reachable(g);
     search_over(few, set, kept, low, n, start, end, words)
 }
 
-// What a share reports: the lowest number and its sentence, or no number and no token.
+// What a share reports: the lowest number and its sentence.
 #[derive(Clone, Copy)]
 pub struct Report {
     pub number: u64,
@@ -267,21 +237,22 @@ pub struct Report {
 
 // The lowest number from `start` to below `end` whose arrangement rises and has two trees, over a
 // well-formed grammar.
-pub fn share_rules(g: Grammar, n: usize, start: u64, end: u64, words: &mut [u64]) -> Report
+pub fn share_rules(g: Grammar, n: usize, start: u64, end: u64, words: &mut [u64]) -> Option<Report>
     requires le_n { (1 ≤ n) × (n ≤ 7) }
     requires formed { Formed g }
     requires n_bound { arrangements (terminal_count (rules_of g)) n ≤ 4294967296 }
     requires n_in_bounds { 2 * pairs n ≤ length words.old }
-    ensures shared { Shared (rules_of g) n start end result.number result.sentence }
+    ensures shared { Shared (rules_of g) n start end result }
     ensures words_after { words.new ≡ cleared n words.old }
 {
-    let h = find(g, n, start, end, words);
+    let found = find(g, n, start, end, words);
     let m = size(n);
     clear(words, m);
-    let c = h.candidate;
-    let sentence = c.sentence(h.length);
-    Report {
-        number: h.number,
-        sentence,
+    match found {
+        None => None,
+        Some(h) => Some(Report {
+            number: h.number,
+            sentence: h.candidate.sentence(n),
+        }),
     }
 }

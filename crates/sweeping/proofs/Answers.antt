@@ -1,11 +1,12 @@
 -- What is found, in the promise's words, and the answer spelled from it.
 use mathlib.Core.Path.{◌≡◌, sym, ap, ◌∙◌, subst}
 use mathlib.Core.Logic.{◌↔◌}
-use mathlib.Core.List.{List, [], ◌∷◌, ◌++◌}
-use Prim.Native.Nat.{ℕ, zero, suc, ◌+◌, ◌-◌, ◌*◌, ◌≤◌, ◌<◌}
+use mathlib.Core.List.{List, ◌++◌}
+use Prim.Native.Nat.{ℕ, ◌-◌, ◌*◌, ◌≤◌}
 use native.Mathlib.Omega.{arith}
 use lib.ListN.{length, drop, replicate, take-append-drop}
 use lib.Count.{ones}
+use Rattle.std.specs.Prelude.{Option, Some, None}
 use Rattle.sets.specs.Sets.{In}
 use Rattle.grammar.specs.declared.Cell.{Cell}
 use Rattle.grammar.specs.declared.Token.{Token}
@@ -13,7 +14,7 @@ use Rattle.grammar.specs.declared.Sentence.{Sentence}
 use Rattle.grammar.specs.Layout.{Word}
 use Rattle.grammar.specs.Trees.{Rules, TwoTrees}
 use Rattle.grammar.specs.Candidates.{Terminal, Candidate, sentence}
-use Rattle.grammar.specs.Sweeps.{found, terminal_count}
+use Rattle.grammar.specs.Sweeps.{found, clear, terminal_count, Clear, FirstTwo}
 use Rattle.grammar.specs.SpanSheet.{pairs}
 use Rattle.grammar.proofs.SweepLaws.{shorter_clear, sentence_length}
 use Rattle.counting.specs.Counts.{HowMany}
@@ -23,23 +24,21 @@ use Rattle.lengths.proofs.Possibly.{derives_can}
 use Rattle.tried_count.specs.Rows.{Fair}
 use Rattle.spans.specs.Changes.{Past, Cleared}
 use Rattle.spans.proofs.ChangeLaws.{past_then, past_drop, zeroed}
+use Rattle.candidates.specs.Arrays.{cells}
 use Rattle.candidates.specs.Terminals.{Among}
 use Rattle.candidates.specs.Spelling.{LowSteps, Spells}
 use Rattle.candidates.proofs.Spelling.{low_steps}
+use Rattle.candidates.proofs.Windows.{cells_size}
 use Rattle.candidates.proofs.TerminalSets.{no_candidate, candidate_over}
 use Rattle.dominance.specs.Dominance.{Spared}
 use Rattle.dominance.proofs.Renaming.{renamed, renamed_candidate, renamed_two, renamed_before}
-use Rattle.sweeping.specs.Searching.{NoneShorter, Admits, Hits, Searched, hit, miss}
-use Rattle.sweeping.specs.Swept.{LengthsOf, Bounded, Swept, clear, two, Found, nothing, first}
+use Rattle.sweeping.specs.Searching.{NoneShorter, Admits, Hits as HitsIn, Searched}
+use Rattle.sweeping.specs.Swept.{LengthsOf, Bounded, SweptTwo, Found}
 use Rattle.sweeping.proofs.Turns.{clear_found, first_found}
 use Rattle.grammar.specs.Sentences.{no_token}
-use Rattle.tried_count.specs.Searched.{answer_of, Hit}
+use Rattle.tried_count.specs.declared.Hit.{Hit}
+use Rattle.tried_count.specs.Searched.{Hits, answer_of}
 use Rattle.sweeping.specs.Cleared.{TriedBy, cleared}
-
--- the lengths up to k are all done
-pub none_left : {g : Rules} {s n : ℕ} (k : ℕ) → k < n → n ≤ k + 1 → NoneShorter g s n
-    → NoneShorter g s (k + 1)
-none_left {g} {s} {n} k a b h = let e : n ≡ k + 1 = omega arith in rw e at h
 
 -- ---- the terminals that a smaller one replaces need not be tried
 
@@ -50,7 +49,7 @@ module _ {g : Rules} {s kept : ℕ} (sp : Spared g s kept) where
         (renamed_candidate g s kept sp m ds c) (renamed_two g s kept sp ds t);
   }
 
-  hits_all : {k n : ℕ} {cs : List Cell} → Hits g kept k n cs → Hits g s k n cs
+  hits_all : {k n : ℕ} {cs : List Cell} → HitsIn g kept k n cs → HitsIn g s k n cs
   hits_all {k} {n} {cs} h = record {
     low = h.low;
     high = h.high;
@@ -64,22 +63,22 @@ module _ {g : Rules} {s kept : ℕ} (sp : Spared g s kept) where
     shorter = shorter_all h.shorter;
   }
 
-  pub searched_all : {k n : ℕ} {cs : List Cell} → Searched g kept k n cs → Searched g s k n cs
-  searched_all (hit h) = hit (hits_all h)
-  searched_all (miss e h) = miss e (shorter_all h)
+  pub searched_all : (k : ℕ) (r : Option Hit) → Searched g kept k r → Searched g s k r
+  searched_all k (Some h) x = hits_all x
+  searched_all k None x = shorter_all x
 
   pub none_all : ((x : ℕ) → Among kept x → ⊥) → (x : ℕ) → Among s x → ⊥
   none_all h x m = let q = sp.each x m in h q.0 q.1
 
 -- ---- rules that have the same sentences with two trees
 
-module _ {g g' : Rules} {s : ℕ} (same : (w : Word) → TwoTrees g 0 w ↔ TwoTrees g' 0 w) where
+module _ {g g' : Rules} (s : ℕ) (same : (w : Word) → TwoTrees g 0 w ↔ TwoTrees g' 0 w) where
   shorter_over : {n : ℕ} → NoneShorter g' s n → NoneShorter g s n
   shorter_over h =
       record { absent = λ m ds l u c t. h.absent m ds l u c ((same (sentence ds)).0 t) }
 
-  pub searched_over : {k n : ℕ} {cs : List Cell} → Searched g' s k n cs → Searched g s k n cs
-  searched_over {cs = cs} (hit h) = hit (record {
+  hits_over : {k n : ℕ} {cs : List Cell} → HitsIn g' s k n cs → HitsIn g s k n cs
+  hits_over {cs = cs} h = record {
     low = h.low;
     high = h.high;
     before = record {
@@ -89,8 +88,11 @@ module _ {g g' : Rules} {s : ℕ} (same : (w : Word) → TwoTrees g 0 w ↔ TwoT
     };
     two = (same (sentence cs)).1 h.two;
     shorter = shorter_over h.shorter;
-  })
-  searched_over (miss e h) = miss e (shorter_over h)
+  }
+
+  pub searched_over : (k : ℕ) (r : Option Hit) → Searched g' s k r → Searched g s k r
+  searched_over k (Some h) x = hits_over x
+  searched_over k None x = shorter_over x
 
 pub admits_over : {g g' : Rules} {l : ℕ} → ((w : Word) → TwoTrees g 0 w ↔ TwoTrees g' 0 w)
     → Admits g l → Admits g' l
@@ -110,22 +112,21 @@ admits_of h = record {
 }
 
 -- what was found, as the count of the tried takes it
-pub hit_of : {g : Rules} {s l : ℕ} (k n : ℕ) (cs : List Cell) → ((x : ℕ) → Among s x ↔ Terminal g x)
-    → LengthsOf g l → k ≤ 7 → length cs ≡ n → Found g k n cs → Hit (In l) (Among s) k n cs
-hit_of k n cs same h few e (nothing z c) = record {
-  high = omega arith;
-  allowed = λ l. absurd (omega arith);
-  candidate =
-      λ l. absurd (omega arith);
-}
-hit_of {g} {s} {l} k n cs same h few e (first f) = record {
-  high = omega (arith, f.high);
-  allowed = λ low. subst (In l) (sentence_length 1 cs ∙ e)
-      ((admits_of h).all (sentence cs) (omega (arith, sentence_length 1 cs, f.low))
-      (omega (arith, sentence_length 1 cs, f.high)) f.two);
-  candidate = λ low. subst (λ (i : ℕ). Candidate (Among s) i cs) e
-      (candidate_over (Terminal g) (Among s) (λ x. (same x).1) f.candidate);
-}
+pub hit_of : {g : Rules} {s l : ℕ} (k : ℕ) (r : Option Hit) → ((x : ℕ) → Among s x ↔ Terminal g x)
+    → LengthsOf g l → k ≤ 7 → Found g k r → Hits (In l) (Among s) k r
+hit_of k None same h few f = tt
+hit_of {g} {s} {l} k (Some r) same h few f =
+    let cs : List Cell = cells r.candidate 0 r.length in
+    let e : length cs ≡ r.length = cells_size r.candidate 0 r.length in
+    record {
+      low = omega (arith, f.low, e);
+      high = omega (arith, f.high, e);
+      allowed = subst (In l) (sentence_length 1 cs ∙ e)
+          ((admits_of h).all (sentence cs) (omega (arith, sentence_length 1 cs, f.low))
+          (omega (arith, sentence_length 1 cs, f.high)) f.two);
+      candidate = subst (λ (i : ℕ). Candidate (Among s) i cs) e
+          (candidate_over (Terminal g) (Among s) (λ x. (same x).1) f.candidate);
+    }
 
 -- the bound as the count takes it
 pub fair_of : {g : Rules} {k : ℕ} (s : ℕ) → Bounded g k → ones s ≡ terminal_count g → ones s ≤ 64
@@ -136,42 +137,60 @@ fair_of s b e few = record { low = b.low; high = b.high; few = few; limit = rw e
 
 module _ {g : Rules} {s : ℕ} (same : (x : ℕ) → Among s x ↔ Terminal g x) where
   -- the search over the set of the terminals
-  pub found_of : {k n : ℕ} {cs : List Cell} → Searched g s k n cs → Found g k n cs
-  found_of (hit h) = first (first_found same h)
-  found_of (miss e h) = nothing e (clear_found same h)
+  pub found_of : (k : ℕ) (r : Option Hit) → Searched g s k r → Found g k r
+  found_of k (Some h) x = first_found same x
+  found_of k None x = clear_found same x
 
   -- no terminal, no candidate
-  pub found_none : {k n : ℕ} {cs : List Cell} → n ≡ 0 → ((x : ℕ) → Among s x → ⊥) → Found g k n cs
-  found_none e h = nothing e (clear_found same
-      (record { absent = λ m ds l u c t. no_candidate (Among s) h m ds l c }))
+  pub found_none : {k : ℕ} → ((x : ℕ) → Among s x → ⊥) → Clear g k
+  found_none h =
+      clear_found same (record { absent = λ m ds l u c t. no_candidate (Among s) h m ds l c })
+
+-- ---- as the sweep's two arms have it
+
+pub first_of : (g : Rules) (k : ℕ) (r : Option Hit) (h : Hit) → r ≡ Some h → Found g k r
+    → FirstTwo g k (cells h.candidate 0 h.length)
+first_of g k r h e f = let z : Found g k (Some h) = rw e at f in z
+
+pub clear_of : (g : Rules) (k : ℕ) (r : Option Hit) → r ≡ None → Found g k r → Clear g k
+clear_of g k r e f = let z : Found g k None = rw e at f in z
+
+pub tried_of : (g : Rules) (k : ℕ) {m : ℕ} (r : Option Hit) (h : Hit) → r ≡ Some h
+    → HowMany (TriedBy g k (answer_of r)) m
+    → HowMany (TriedBy g k (found (cells h.candidate 0 h.length))) m
+tried_of g k {m} r h e f =
+    subst (λ (x : Option Hit). HowMany (TriedBy g k (answer_of x)) m) e f
+
+pub none_tried : (g : Rules) (k : ℕ) {m : ℕ} (r : Option Hit) → r ≡ None
+    → HowMany (TriedBy g k (answer_of r)) m → HowMany (TriedBy g k clear) m
+none_tried g k {m} r e f =
+    subst (λ (x : Option Hit). HowMany (TriedBy g k (answer_of x)) m) e f
 
 -- what is found can be spelled
-pub found_low : {g : Rules} {k n : ℕ} {cs : List Cell} → length cs ≡ n → k ≤ 7 → Found g k n cs
-    → (n ≤ 7) × LowSteps cs
-found_low e h (first f) = (omega (arith, f.high), low_steps f.candidate)
-found_low {g} {k} {n} {cs} e h (nothing z c) = (omega arith, no_steps cs (e ∙ z))
-  where
-    no_steps : (ds : List Cell) → length ds ≡ 0 → LowSteps ds
-    no_steps [] q = tt
-    no_steps (d ∷ ds) q = absurd (omega arith)
+pub found_low : {g : Rules} {k : ℕ} (h : Hit) → k ≤ 7 → FirstTwo g k (cells h.candidate 0 h.length)
+    → (h.length ≤ 7) × LowSteps (cells h.candidate 0 h.length)
+found_low h few f =
+    (omega (arith, f.high, cells_size h.candidate 0 h.length), low_steps f.candidate)
 
 -- and is the answer
-pub swept_of : {g : Rules} {k n m : ℕ} {cs : List Cell} {r : Sentence} → length cs ≡ n
-    → Found g k n cs → Spells cs n r → HowMany (TriedBy g k (answer_of n cs)) m → Swept g k r m
-swept_of {g} {k} {n} {m} {cs} {r} e (nothing z c) x q =
-    clear c (x.count ∙ z) (subst (λ (m : ℕ). drop m r.tokens ≡ replicate (64 - m) no_token) z
-    x.past) (subst (λ (i : ℕ). HowMany (TriedBy g k (answer_of i cs)) m) z q)
-swept_of {g} {k} {n} {m} {cs} {r} e (first f) x q =
-    two f (shorter_clear f) (x.count ∙ sym e)
-    (sym (take-append-drop n r.tokens) ∙ ap (λ (l : List Token). l ++ drop n r.tokens)
-    x.front ∙ ap (λ (l : List Token). sentence cs ++ l) x.past
-    ∙ ap (λ (m : ℕ). sentence cs ++ replicate (64 - m) no_token) (sym e))
-    (tried_two n (omega (arith, f.low, e)) q)
-  where
-    tried_two : (i : ℕ) → 1 ≤ i → HowMany (TriedBy g k (answer_of i cs)) m
-        → HowMany (TriedBy g k (found cs)) m
-    tried_two zero l c = absurd (omega arith)
-    tried_two (suc i) l c = c
+pub swept_of : {g : Rules} {k m : ℕ} {r : Sentence} (h : Hit)
+    → FirstTwo g k (cells h.candidate 0 h.length)
+    → Spells (cells h.candidate 0 h.length) h.length r
+    → HowMany (TriedBy g k (found (cells h.candidate 0 h.length))) m → SweptTwo g k r m
+swept_of {r = r} h f x q =
+    let cs : List Cell = cells h.candidate 0 h.length in
+    let e : length cs ≡ h.length = cells_size h.candidate 0 h.length in
+    record {
+      found = cs;
+      first = f;
+      shorter = shorter_clear f;
+      count = x.count ∙ sym e;
+      tokens = sym (take-append-drop h.length r.tokens)
+          ∙ ap (λ (l : List Token). l ++ drop h.length r.tokens) x.front
+          ∙ ap (λ (l : List Token). sentence cs ++ l) x.past
+          ∙ ap (λ (m : ℕ). sentence cs ++ replicate (64 - m) no_token) (sym e);
+      tried = q;
+    }
 
 pub all_cleared : (k : ℕ) {m : ℕ} {ws ws' ws'' : List ℕ} → m ≡ 2 * pairs k → 2 * pairs k ≤ length ws
     → Past (2 * pairs k) ws ws' → Cleared ws' ws'' m → ws'' ≡ cleared k ws

@@ -15,7 +15,8 @@ use Rattle.grammar.proofs.SweepLaws.{clear_of, sentence_length}
 use Rattle.candidates.specs.Terminals.{Among}
 use Rattle.candidates.specs.Succession.{First, Follows, Ends}
 use Rattle.candidates.proofs.TerminalSets.{candidate_over}
-use Rattle.sweeping.specs.Searching.{NoneShorter, Admits, NoneBefore, NoneSharing, Hits}
+use Rattle.sweeping.specs.Searching.{NoneShorter, NoneLong, Admits, NoneBefore}
+use Rattle.sweeping.specs.Searching.{NoneSharing, Hits}
 
 module _ {g : Rules} {s : ℕ} where
   pub none_yet : NoneShorter g s 1
@@ -34,10 +35,16 @@ module _ {g : Rules} {s : ℕ} where
         (λ x. q.absent ds c x t) (λ x. h.absent ds c x t) (f.least ds c e);
   }
 
+  -- at the end of a length
+  pub exhausted : {n b : ℕ} {cs : List Cell} → NoneBefore g s n cs → NoneSharing g s n b cs
+      → Ends s n b cs → NoneLong g s n
+  exhausted k q e = record {
+    absent = λ ds d t. ⊎_elim (λ y. q.absent ds d y t) (λ y. k.absent ds d y t) (e.last ds d);
+  }
+
   -- past a length
-  pub longer : {n b : ℕ} {cs : List Cell} → NoneShorter g s n → NoneBefore g s n cs
-      → NoneSharing g s n b cs → Ends s n b cs → NoneShorter g s (n + 1)
-  longer {n} {b} {cs} h k q e = record { absent = go }
+  pub longer : {n : ℕ} → NoneShorter g s n → NoneLong g s n → NoneShorter g s (n + 1)
+  longer {n} h q = record { absent = go }
     where
       go : (m : ℕ) (ds : List Cell) → 1 ≤ m → m < n + 1 → Candidate (Among s) m ds
           → TwoTrees g 0 (sentence ds) → ⊥
@@ -48,21 +55,15 @@ module _ {g : Rules} {s : ℕ} where
           at (no x) =
               let i : m ≡ n = omega arith in
               let d : Candidate (Among s) n ds = rw i at c in
-              ⊎_elim (λ y. q.absent ds d y t) (λ y. k.absent ds d y t) (e.last ds d)
+              q.absent ds d t
 
-  -- past a length that no sentence with two trees has
-  pub passed_over : {n l : ℕ} → NoneShorter g s n → Admits g l → n ≤ 7 → (In l n → ⊥)
-      → NoneShorter g s (n + 1)
-  passed_over {n} {l} h v few out =
-      record { absent = λ m ds low u c t. at m ds low u c t (dec_lt m n) }
-    where
-      at : (m : ℕ) (ds : List Cell) → 1 ≤ m → m < n + 1 → Candidate (Among s) m ds
-          → TwoTrees g 0 (sentence ds) → Dec (m < n) → ⊥
-      at m ds low u c t (yes x) = h.absent m ds low x c t
-      at m ds low u c t (no x) =
-          let e : length (sentence ds) ≡ n =
-          sentence_length 1 ds ∙ c.arranged.size ∙ (omega arith) in
-          out (subst (In l) e (v.all (sentence ds) (omega (arith, e)) (omega (arith, e)) t))
+  -- no sentence of a length has two trees
+  pub passed_over : {n l : ℕ} → Admits g l → 1 ≤ n → n ≤ 7 → (In l n → ⊥) → NoneLong g s n
+  passed_over {n} {l} v low few out = record {
+    absent = λ ds c t.
+        let e : length (sentence ds) ≡ n = sentence_length 1 ds ∙ c.arranged.size in
+        out (subst (In l) e (v.all (sentence ds) (omega (arith, e)) (omega (arith, e)) t));
+  }
 
   module _ (same : (x : ℕ) → Among s x ↔ Terminal g x) where
     to : {n : ℕ} {cs : List Cell} → Candidate (Terminal g) n cs → Candidate (Among s) n cs

@@ -1,18 +1,26 @@
 -- What the search over candidates has settled so far, and what it finds. Only the proofs of the
 -- sweep need it; the promise speaks of the first candidate of all.
-use Rattle.std.specs.Prelude.{◌≡◌, Bool, true, false, List, ℕ, ◌+◌, ◌≤◌, ◌<◌, length}
+use Rattle.std.specs.Prelude.{◌≡◌, Bool, true, false, List, ℕ, ◌+◌, ◌≤◌, ◌<◌, length, Option, Some}
+use Rattle.std.specs.Prelude.{None}
 use Rattle.sets.specs.Sets.{In}
 use Rattle.grammar.specs.declared.Cell.{Cell}
 use Rattle.grammar.specs.Layout.{Word}
 use Rattle.grammar.specs.Trees.{Rules, TwoTrees}
 use Rattle.grammar.specs.Candidates.{Candidate, CellsBefore, sentence}
+use Rattle.candidates.specs.declared.Candidate as Array
+use Rattle.candidates.specs.Arrays.{cells}
 use Rattle.candidates.specs.Terminals.{Among}
 use Rattle.candidates.specs.Succession.{Shares}
+use Rattle.tried_count.specs.declared.Hit.{Hit}
 
 -- no candidate of 1 to n - 1 tokens has two trees
 pub record NoneShorter (g : Rules) (s n : ℕ) : Type 0 where
   pub absent : (m : ℕ) (ds : List Cell) → 1 ≤ m → m < n → Candidate (Among s) m ds
       → TwoTrees g 0 (sentence ds) → ⊥
+
+-- no candidate of n tokens has two trees
+pub record NoneLong (g : Rules) (s n : ℕ) : Type 0 where
+  pub absent : (ds : List Cell) → Candidate (Among s) n ds → TwoTrees g 0 (sentence ds) → ⊥
 
 -- every sentence of 1 to 7 tokens that has two trees has a length in s
 pub record Admits (g : Rules) (s : ℕ) : Type 0 where
@@ -43,10 +51,16 @@ pub record Hits (g : Rules) (s k n : ℕ) (cs : List Cell) : Type 0 where
   pub two : TwoTrees g 0 (sentence cs)
   pub shorter : NoneShorter g s n
 
--- what the search up to k finds: a hit, or nothing, and then it answers length 0
-pub data Searched (g : Rules) (s k n : ℕ) (cs : List Cell) : Type 0 where
-  hit : Hits g s k n cs → Searched g s k n cs
-  miss : n ≡ 0 → NoneShorter g s (k + 1) → Searched g s k n cs
+-- what the search up to k finds: a hit, or nothing
+abbrev pub Searched : Rules → ℕ → ℕ → Option Hit → Type 0
+Searched g s k (Some h) = Hits g s k h.length (cells h.candidate 0 h.length)
+Searched g s k None = NoneShorter g s (k + 1)
+
+-- what the search of one length finds: the first candidate that has two trees, or nothing
+abbrev pub SearchedLength : Rules → ℕ → ℕ → Option Array.Candidate → Type 0
+SearchedLength g s n (Some c) =
+    NoneBefore g s n (cells c 0 n) × TwoTrees g 0 (sentence (cells c 0 n))
+SearchedLength g s n None = NoneLong g s n
 
 -- where the search stands: at the candidate cs of n tokens, about to look at its first b cells
 pub record SweepTurn (g : Rules) (s n b : ℕ) (cs : List Cell) : Type 0 where

@@ -1,6 +1,7 @@
 -- What a sweep answers: "The answer is `two` with the first candidate that has two trees, or
 -- `clear`".
 use Rattle.std.specs.Prelude.{◌≡◌, List, ◌++◌, ◌↔◌, ℕ, ◌-◌, ◌≤◌, ◌<◌, length, replicate}
+use Rattle.std.specs.Prelude.{Option, Some, None}
 use Rattle.grammar.specs.declared.Cell.{Cell}
 use Rattle.grammar.specs.declared.Sentence.{Sentence}
 use Rattle.grammar.specs.Trees.{Rules}
@@ -10,6 +11,8 @@ use Rattle.grammar.specs.Sweeps as Sweeps
 use Rattle.sets.specs.Sets.{In}
 use Rattle.counting.specs.Counts.{HowMany}
 use Rattle.lengths.specs.Lengths.{CanHave}
+use Rattle.candidates.specs.Arrays.{cells}
+use Rattle.tried_count.specs.declared.Hit.{Hit}
 use Rattle.sweeping.specs.Cleared.{TriedBy}
 use Rattle.grammar.specs.Sentences.{no_token}
 
@@ -23,18 +26,22 @@ pub record Bounded (g : Rules) (k : ℕ) : Type 0 where
   pub high : k ≤ 7
   pub few : arrangements (terminal_count g) k ≤ 4294967296
 
--- the answer up to k: clear, and no token; or the first candidate that has two trees, and no
--- shorter sequence has two. m is how many candidates were tried. "The answer's token places
--- past that sentence are 0; on `clear` all of them are, and the sentence's length too"
-pub data Swept (g : Rules) (k : ℕ) (r : Sentence) (m : ℕ) : Type 0 where
-  clear : Clear g k → r.count ≡ 0 → r.tokens ≡ replicate 64 no_token
-      → HowMany (TriedBy g k Sweeps.clear) m → Swept g k r m
-  two : {cs : List Cell} → FirstTwo g k cs → Clear g (length cs - 1) → r.count ≡ length cs
-      → r.tokens ≡ sentence cs ++ replicate (64 - length cs) no_token
-      → HowMany (TriedBy g k (Sweeps.found cs)) m → Swept g k r m
+-- r has the first candidate that has two trees, and no shorter sequence has two. m is how many
+-- candidates were tried. "The answer's token places past that sentence are 0"
+pub record SweptTwo (g : Rules) (k : ℕ) (r : Sentence) (m : ℕ) : Type 0 where
+  pub found : List Cell
+  pub first : FirstTwo g k found
+  pub shorter : Clear g (length found - 1)
+  pub count : r.count ≡ length found
+  pub tokens : r.tokens ≡ sentence found ++ replicate (64 - length found) no_token
+  pub tried : HowMany (TriedBy g k (Sweeps.found found)) m
 
--- what was found before it is spelled: nothing, and no cell; or the first candidate that has two
--- trees
-pub data Found (g : Rules) (k n : ℕ) (cs : List Cell) : Type 0 where
-  nothing : n ≡ 0 → Clear g k → Found g k n cs
-  first : FirstTwo g k cs → Found g k n cs
+-- the answer up to k: such a sentence, or clear
+abbrev pub Swept : Rules → ℕ → Option Sentence → ℕ → Type 0
+Swept g k (Some r) m = SweptTwo g k r m
+Swept g k None m = Clear g k × HowMany (TriedBy g k Sweeps.clear) m
+
+-- what was found before it is spelled: the first candidate that has two trees, or nothing
+abbrev pub Found : Rules → ℕ → Option Hit → Type 0
+Found g k (Some h) = FirstTwo g k (cells h.candidate 0 h.length)
+Found g k None = Clear g k

@@ -14,7 +14,7 @@ ghost use Rattle.counting.specs.Counts.{HowMany};
 ghost use Rattle.lengths.specs.Lengths.{CanHave};
 ghost use Rattle.lengths.specs.Indexes.{Exact};
 ghost use Rattle.tried_count.specs.Tried.{Tried};
-ghost use Rattle.sweeping.specs.Searching.{Looked, Admits, Searched};
+ghost use Rattle.sweeping.specs.Searching.{Looked, Admits, Searched, SearchedLength};
 ghost use Rattle.sweeping.specs.Swept.{LengthsOf, Bounded, Swept, Found};
 ghost use Rattle.refilling.specs.Kept.{kept_for, Prepared, Mirrored};
 ghost use Rattle.tried_count.specs.Searched.{answer_of};
@@ -28,9 +28,9 @@ use lengths::Index;
 use pruning::{TABLE, fill_table, has_two, refutes};
 use reachable_rules::reachable;
 use refilling::{KEPT_SHORT, open_sheet, prepare};
-use sets::{Member, first_from, has};
+use sets::{first_from, has};
 use spans::{clear, size};
-use tried_count::tried;
+use tried_count::{Hit, tried};
 
 // Is none of the candidates that share the first b cells the first with two trees? Where b is n and
 // the answer is no, this one has two.
@@ -62,32 +62,47 @@ fn look(
     refutes(g, set, table, c, n, b, words, cuts)
 }
 
-// What the search finds: a candidate and its length, which is 0 where it finds none.
-#[derive(Clone, Copy)]
-struct Hit {
-    length: usize,
-    candidate: Candidate,
-}
-
-// Nothing found.
-fn nothing() -> Hit
-    ensures { result.length ≡ 0 }
+// The first candidate of n tokens that has two trees, over a set whose least terminal is low. A
+// candidate's first b cells are looked at: where they rule it out, the search goes on past all that
+// share them, else with a cell more.
+fn search_length(
+    g: Grammar,
+    set: u64,
+    table: &[u64],
+    low: u8,
+    n: usize,
+    words: &mut [u64],
+    cuts: &mut [u64],
+) -> Option<Candidate>
+    requires le_n { (1 ≤ n) × (n ≤ 7) }
+    requires lowest { Lowest set low }
+    requires formed { Formed g }
+    requires n_in_bounds { 2 * pairs n ≤ length words.old }
+    requires tabled { Tabled (rules_of g) set table.now }
+    requires n_in_bounds_2 { (kept_for n ≤ length cuts.old) × Prepared (rules_of g) cuts.old }
+    ensures searched { SearchedLength (rules_of g) set n result }
+    ensures past { Past (2 * pairs n) words.old words.new }
+    ensures prepared { Prepared (rules_of g) cuts.new }
 {
-    let c = Candidate {
-        terminals: [0; 7],
-        steps: [0; 7],
-        columns: [0; 7],
-    };
-    Hit {
-        length: 0,
-        candidate: c,
+    open_sheet(words, cuts, g, n);
+    let mut c = Candidate::first(set, low, n);
+    let mut b: usize = 0;
+    loop {
+        if look(g, set, table, c, n, b, words, cuts) {
+            let s = c.successor(set, low, n, b)?;
+            c = s.to;
+            b = s.upto;
+            continue;
+        }
+        if b == n {
+            return Some(c);
+        }
+        b += 1;
     }
 }
 
-// The first candidate of 1 to k tokens that has two trees, over a set whose least terminal is low.
-// A candidate's first b cells are looked at: where they rule it out, the search goes on past all
-// that share them, else with a cell more. Lengths that are not in the set `lengths` are passed
-// over.
+// The first candidate of 1 to k tokens that has two trees. Lengths that are not in the set
+// `lengths` are passed over.
 fn search(
     g: Grammar,
     set: u64,
@@ -97,7 +112,7 @@ fn search(
     k: usize,
     words: &mut [u64],
     cuts: &mut [u64],
-) -> Hit
+) -> Option<Hit>
     requires le_k { (1 ≤ k) × (k ≤ 7) }
     requires lowest { Lowest set low }
     requires formed { Formed g }
@@ -105,55 +120,38 @@ fn search(
     requires k_in_bounds { 2 * pairs k ≤ length words.old }
     requires tabled { Tabled (rules_of g) set table.now }
     requires k_in_bounds_2 { (kept_for k ≤ length cuts.old) × Prepared (rules_of g) cuts.old }
-    ensures searched { Searched (rules_of g) set k result.length
-        (cells result.candidate 0 result.length) }
+    ensures searched { Searched (rules_of g) set k result }
     ensures past { Past (2 * pairs k) words.old words.new }
 {
-    let mut n: usize = 1;
-    let hit = 'search: loop {
-        if k < n {
-            break 'search nothing();
-        }
+    for n in 1..=k {
         if !has(lengths, n as u8) {
-            n += 1;
             continue;
         }
-        open_sheet(words, cuts, g, n);
-        let mut c = Candidate::first(set, low, n);
-        let mut b: usize = 0;
-        loop {
-            if look(g, set, table, c, n, b, words, cuts) {
-                let s = c.successor(set, low, n, b);
-                if !s.more {
-                    break;
-                }
-                let t = s.to;
-                c = t;
-                b = s.upto;
-                continue;
-            }
-            if b == n {
-                break 'search Hit {
-                    length: n,
-                    candidate: c,
-                };
-            }
-            b += 1;
+        if let Some(candidate) = search_length(g, set, table, low, n, words, cuts) {
+            return Some(Hit {
+                length: n,
+                candidate,
+            });
         }
-        n += 1;
-    };
-    hit
+    }
+    None
 }
 
 // The same, the pairs of the set's terminals being worked out first.
-fn find_among(g: Grammar, set: u64, low: u8, lengths: u64, k: usize, words: &mut [u64]) -> Hit
+fn find_among(
+    g: Grammar,
+    set: u64,
+    low: u8,
+    lengths: u64,
+    k: usize,
+    words: &mut [u64],
+) -> Option<Hit>
     requires le_k { (1 ≤ k) × (k ≤ 7) }
     requires lowest { Lowest set low }
     requires formed { Formed g }
     requires admits { Admits (rules_of g) lengths }
     requires k_in_bounds { 2 * pairs k ≤ length words.old }
-    ensures searched { Searched (rules_of g) set k result.length
-        (cells result.candidate 0 result.length) }
+    ensures searched { Searched (rules_of g) set k result }
     ensures past { Past (2 * pairs k) words.old words.new }
 {
     let mut table: [u64; TABLE] = [0; TABLE];
@@ -166,48 +164,43 @@ fn find_among(g: Grammar, set: u64, low: u8, lengths: u64, k: usize, words: &mut
 // The first candidate of 1 to k tokens that has two trees, over the terminals of the sheet. It has
 // none that a smaller one replaces, so that these need not be tried, nor need lengths outside the
 // set; and trees of 0 have no rule that 0 does not reach.
-fn find(g: Grammar, lengths: u64, k: usize, words: &mut [u64]) -> Hit
+fn find(g: Grammar, lengths: u64, k: usize, words: &mut [u64]) -> Option<Hit>
     requires le_k { (1 ≤ k) × (k ≤ 7) }
     requires formed { Formed g }
     requires admits { Admits (rules_of g) lengths }
     requires k_in_bounds { 2 * pairs k ≤ length words.old }
-    ensures found { Found (rules_of g) k result.length (cells result.candidate 0 result.length) }
+    ensures found { Found (rules_of g) k result }
     ensures past { Past (2 * pairs k) words.old words.new }
 {
-    let all = terminals(g);
-    let set = needed(g, all);
-    let f = first_from(set, 0);
-    let Member::At(low) = f else {
-        return nothing();
-    };
+    let set = needed(g, terminals(g));
+    let low = first_from(set, 0)?;
     let few = reachable(g);
     find_among(few, set, low, lengths, k, words)
 }
 
-// How many candidates a search up to k tried that found c, of n tokens, or nothing where n is 0:
-// those over all terminals of the sheet, of the lengths in the set.
-fn counted(g: Grammar, lengths: u64, k: usize, n: usize, c: Candidate) -> u64
+// How many candidates a search up to k tried that found a hit, or nothing: those over all terminals
+// of the sheet, of the lengths in the set.
+fn counted(g: Grammar, lengths: u64, k: usize, found: Option<Hit>) -> u64
     requires formed { Formed g }
     requires bounded { Bounded (rules_of g) k }
     requires lengths_of { LengthsOf (rules_of g) lengths }
-    requires found { Found (rules_of g) k n (cells c 0 n) }
+    requires found { Found (rules_of g) k found }
     ensures { HowMany (Tried (CanHave (rules_of g) 0) (Of.Terminal (rules_of g)) k
-        (answer_of n (cells c 0 n))) result }
+        (answer_of found)) result }
 {
     let all = terminals(g);
-    tried(lengths, all, k, n, c)
+    tried(lengths, all, k, found)
 }
 
-// What a sweep gives: the found sentence, of no tokens where there is none, and how many candidates
-// it tried.
+// What a sweep gives: the found sentence, if there is one, and how many candidates it tried.
 #[derive(Clone, Copy)]
 pub struct Sweep {
-    pub sentence: Sentence,
+    pub sentence: Option<Sentence>,
     pub tried: u64,
 }
 
 // The sweep up to k over a well-formed grammar with its index: the first candidate that has two
-// trees, or no token.
+// trees.
 pub fn sweep_rules(g: Grammar, x: Index, k: usize, words: &mut [u64]) -> Sweep
     requires bounded { Bounded (rules_of g) k }
     requires formed { Formed g }
@@ -217,12 +210,18 @@ pub fn sweep_rules(g: Grammar, x: Index, k: usize, words: &mut [u64]) -> Sweep
     ensures words_after { words.new ≡ cleared k words.old }
 {
     let lengths = x.sets[0];
-    let h = find(g, lengths, k, words);
+    let found = find(g, lengths, k, words);
     let m = size(k);
     clear(words, m);
-    let c = h.candidate;
-    let n = h.length;
-    let t = counted(g, lengths, k, n, c);
-    let sentence = c.sentence(n);
-    Sweep { sentence, tried: t }
+    let tried = counted(g, lengths, k, found);
+    match found {
+        None => Sweep {
+            sentence: None,
+            tried,
+        },
+        Some(h) => Sweep {
+            sentence: Some(h.candidate.sentence(h.length)),
+            tried,
+        },
+    }
 }

@@ -4,7 +4,6 @@ use mathlib.Core.Logic.{◌⊎◌, inl, inr}
 use Prim.Native.Nat.{ℕ, zero, suc, ◌+◌, ◌/◌, ◌%◌, ◌^◌, ◌≤◌, ◌<◌}
 use native.Mathlib.Omega.{arith}
 use native.Mathlib.Decide.{dec_lt}
-use native.Mathlib.Numerals.{add-one}
 use native.Mathlib.Nat.{pow-zero, mod-one, mod-lt, mod-eq_of_lt, add_comm}
 use lib.Pow.{pow_pos, mod-pow-add}
 use lib.Count.{ones, ones_in, ones_cat}
@@ -14,7 +13,7 @@ use Rattle.counting.specs.Counts.{HowMany}
 use Rattle.counting.proofs.CountLaws.{counts_none, counts_one, counts_iff, counts_plus}
 use Rattle.tried_count.specs.Rows.{members_below_of}
 
-pub digit_low : (s a : ℕ) → s / 2 ^ a % 2 < 2
+digit_low : (s a : ℕ) → s / 2 ^ a % 2 < 2
 digit_low s a = mod-lt (s / 2 ^ a) (omega arith)
 
 pub members_le : (s a : ℕ) → members_below_of s a ≤ a
@@ -58,7 +57,7 @@ ones_digit zero h = refl
 ones_digit (suc zero) h = refl
 ones_digit (suc (suc b)) h = absurd (omega arith)
 
-ones_below : (s n : ℕ) → ones (s % 2 ^ n) ≡ members_below_of s n
+pub ones_below : (s n : ℕ) → ones (s % 2 ^ n) ≡ members_below_of s n
 unfolding members_below_of
 ones_below s zero = rw (pow-zero 2, mod-one s) (ones_digit 0 (omega arith))
 ones_below s (suc n) =
@@ -73,14 +72,3 @@ pub among_count : (s : ℕ) → s < 2 ^ 64 → HowMany (Among s) (ones s)
 among_count s h =
     let e : members_below_of s 64 ≡ ones s = sym (ones_below s 64) ∙ ap ones (mod-eq_of_lt h) in
     rw (← e) (members_count s 64)
-
--- ---- as the loop has it
-
-pub members_none : (s : ℕ) → 0 ≡ members_below_of s 0
-unfolding members_below_of
-members_none s = refl
-
-pub members_more : (s i n : ℕ) → n ≡ members_below_of s i
-    → n + s / 2 ^ i % 2 ≡ members_below_of s (i + 1)
-unfolding members_below_of
-members_more s i n e = rw (add-one i) (ap (λ (x : ℕ). x + s / 2 ^ i % 2) e)

@@ -2,15 +2,17 @@
 use mathlib.Core.Path.{◌≡◌, refl, sym, ◌∙◌, ap, subst}
 use mathlib.Core.Logic.{◌⊎◌, inl, inr, ⊎_elim, ◌↔◌}
 use mathlib.Core.List.{List, [], ◌∷◌}
-use Prim.Native.Nat.{ℕ, suc, ◌+◌, ◌-◌, ◌*◌, ◌^◌, ◌≤◌, ◌<◌}
+use Prim.Native.Nat.{ℕ, ◌+◌, ◌-◌, ◌*◌, ◌^◌, ◌≤◌, ◌<◌}
 use native.Mathlib.Omega.{arith}
 use native.Mathlib.Decide.{dec_lt}
 use native.Mathlib.Nat.{mul-le-mul}
 use lib.ListN.{length}
 use lib.Count.{ones}
+use Rattle.std.specs.Prelude.{Option, Some}
 use Rattle.grammar.specs.declared.Cell.{Cell}
 use Rattle.grammar.specs.Candidates.{Candidate, CellsBefore}
 use Rattle.grammar.specs.Sweeps.{SweepAnswer, clear, found}
+use Rattle.candidates.specs.Arrays.{cells}
 use Rattle.candidates.specs.Terminals.{Among}
 use Rattle.candidates.proofs.TerminalSets.{candidate_over}
 use Rattle.counting.specs.Counts.{HowMany}
@@ -22,7 +24,8 @@ use Rattle.tried_count.proofs.Sums.{ways_le}
 use Rattle.tried_count.proofs.Bounds.{onward_small, fair_shorter}
 use Rattle.tried_count.proofs.Members.{among_count, among_below}
 use Rattle.tried_count.proofs.Going.{whole_candidates, rank_candidates}
-use Rattle.tried_count.specs.Searched.{Long, answer_of, Hit}
+use Rattle.tried_count.specs.Searched.{Long, Hit, Hits}
+use Rattle.tried_count.specs.declared.Hit as Found
 
 -- all candidates of a fair length are few
 pub whole_small : (t n : ℕ) → Fair t n → whole_of t n ≤ 5772436045824
@@ -42,10 +45,10 @@ pub fairs_less : {t k : ℕ} (n : ℕ) → n ≤ k → Fairs t k → Fairs t n
 fairs_less n h f = record { each = λ i l u. f.each i l (omega arith) }
 
 module _ (L Q : ℕ → Type 0) where
-  -- nothing found: all
-  pub tried_none : {m : ℕ} (k n : ℕ) (cs : List Cell) → n ≡ 0 → HowMany (Sized L Q k) m
-      → HowMany (Tried L Q k (answer_of n cs)) m
-  tried_none {m} k n cs e c = subst (λ (i : ℕ). HowMany (Tried L Q k (answer_of i cs)) m) (sym e) c
+  -- what a search found, where it found one
+  pub hit_of : {k : ℕ} (r : Option Found.Hit) (h : Found.Hit) → r ≡ Some h → Hits L Q k r
+      → Hit L Q k h.length (cells h.candidate 0 h.length)
+  hit_of {k} r h e q = let z : Hits L Q k (Some h) = rw e at q in z
 
   pub long_all : {m : ℕ} (n : ℕ) → L n → HowMany (Candidate Q n) m → HowMany (Long L Q n) m
   long_all n l c =
@@ -58,12 +61,13 @@ module _ (L Q : ℕ → Type 0) where
   sized_none = counts_none (λ cs k. omega (arith, k.low, k.high))
 
   -- one length more
-  pub sized_more : {m x : ℕ} (n : ℕ) → HowMany (Sized L Q n) m → HowMany (Long L Q (n + 1)) x
-      → HowMany (Sized L Q (n + 1)) (m + x)
-  sized_more n s l = counts_iff to from
+  pub sized_more : {m x : ℕ} (n : ℕ) → 1 ≤ n → HowMany (Sized L Q (n - 1)) m
+      → HowMany (Long L Q n) x
+      → HowMany (Sized L Q n) (m + x)
+  sized_more n low s l = counts_iff to from
       (counts_plus s l (λ cs a b. omega (arith, a.high, b.candidate.arranged.size)))
     where
-      to : (cs : List Cell) → Sized L Q n cs ⊎ Long L Q (n + 1) cs → Sized L Q (n + 1) cs
+      to : (cs : List Cell) → Sized L Q (n - 1) cs ⊎ Long L Q n cs → Sized L Q n cs
       to cs (inl a) = record {
         low = a.low;
         high = omega (arith, a.high);
@@ -71,7 +75,7 @@ module _ (L Q : ℕ → Type 0) where
         candidate = a.candidate;
       }
       to cs (inr b) =
-          let e : length cs ≡ n + 1 = b.candidate.arranged.size in
+          let e : length cs ≡ n = b.candidate.arranged.size in
           record {
             low = omega (arith, e);
             high = omega (arith, e);
@@ -80,8 +84,8 @@ module _ (L Q : ℕ → Type 0) where
             candidate = subst (λ (i : ℕ). Candidate Q i cs) (sym e) b.candidate;
           }
 
-      from : (cs : List Cell) → Sized L Q (n + 1) cs → Sized L Q n cs ⊎ Long L Q (n + 1) cs
-      from cs a = elim (dec_lt (length cs) (n + 1)) [
+      from : (cs : List Cell) → Sized L Q n cs → Sized L Q (n - 1) cs ⊎ Long L Q n cs
+      from cs a = elim (dec_lt (length cs) n) [
         | yes h ↦ inl (record {
           low = a.low;
           high = omega (arith, h);
@@ -91,7 +95,7 @@ module _ (L Q : ℕ → Type 0) where
         | no h ↦ inr (long cs a (omega (arith, h, a.high)))
       ]
         where
-          long : (cs : List Cell) → Sized L Q (n + 1) cs → length cs ≡ n + 1 → Long L Q (n + 1) cs
+          long : (cs : List Cell) → Sized L Q n cs → length cs ≡ n → Long L Q n cs
           long cs a e = record {
             allowed = subst L e a.allowed;
             candidate = subst
@@ -99,18 +103,18 @@ module _ (L Q : ℕ → Type 0) where
           }
 
   -- the shorter ones, those of the same length before the found one, and that one
-  module _ (k n : ℕ) (cs : List Cell) (low : 1 ≤ n) (h : Hit L Q k n cs) where
+  module _ (k n : ℕ) (cs : List Cell) (h : Hit L Q k n cs) where
     size : length cs ≡ n
-    size = (h.candidate low).arranged.size
+    size = h.candidate.arranged.size
 
     itself : Sized L Q k cs
     itself = record {
-      low = omega (arith, size);
+      low = omega (arith, size, h.low);
       high = omega (arith, size, h.high);
       allowed =
-          subst L (sym size) (h.allowed low);
+          subst L (sym size) h.allowed;
       candidate =
-          subst (λ (i : ℕ). Candidate Q i cs) (sym size) (h.candidate low);
+          subst (λ (i : ℕ). Candidate Q i cs) (sym size) h.candidate;
     }
 
     never : (ds : List Cell) → CellsBefore ds ds → ⊥
@@ -121,7 +125,7 @@ module _ (L Q : ℕ → Type 0) where
     never (d ∷ ds) (inr b) = never ds b.1
 
     to : (ds : List Cell) → (Sized L Q (n - 1) ds ⊎ (Candidate Q n ds × CellsBefore ds cs))
-        ⊎ (ds ≡ cs) → Tried L Q k (answer_of (suc (n - 1)) cs) ds
+        ⊎ (ds ≡ cs) → Tried L Q k (found cs) ds
     to ds (inl (inl a)) = (
       record {
         low = a.low;
@@ -130,15 +134,15 @@ module _ (L Q : ℕ → Type 0) where
             a.allowed;
         candidate = a.candidate;
       },
-      inr (inl (omega (arith, a.high, size))),
+      inr (inl (omega (arith, h.low, a.high, size))),
     )
     to ds (inl (inr b)) =
         let e : length ds ≡ n = b.0.arranged.size in (
           record {
-            low = omega (arith, e);
+            low = omega (arith, e, h.low);
             high = omega (arith, e, h.high);
             allowed = subst L
-                (sym e) (h.allowed low);
+                (sym e) h.allowed;
             candidate =
                 subst (λ (i : ℕ). Candidate Q i ds) (sym e) b.0;
           },
@@ -146,7 +150,7 @@ module _ (L Q : ℕ → Type 0) where
         )
     to ds (inr e) = (subst (Sized L Q k) (sym e) itself, inl e)
 
-    from : (ds : List Cell) → Tried L Q k (answer_of (suc (n - 1)) cs) ds
+    from : (ds : List Cell) → Tried L Q k (found cs) ds
         → (Sized L Q (n - 1) ds ⊎ (Candidate Q n ds × CellsBefore ds cs)) ⊎ (ds ≡ cs)
     from ds t = ⊎_elim (λ e. inr e)
         (λ b. ⊎_elim
@@ -162,19 +166,17 @@ module _ (L Q : ℕ → Type 0) where
 
     pub tried_found : {m x : ℕ} → HowMany (Sized L Q (n - 1)) m
         → HowMany (λ (ds : List Cell). Candidate Q n ds × CellsBefore ds cs) x
-        → HowMany (Tried L Q k (answer_of n cs)) (m + x + 1)
+        → HowMany (Tried L Q k (found cs)) (m + x + 1)
     tried_found {m} {x} s b =
-        let e : suc (n - 1) ≡ n = omega arith in
-        subst (λ (i : ℕ). HowMany (Tried L Q k (answer_of i cs)) (m + x + 1)) e
-        (counts_iff to from
+        counts_iff to from
         (counts_plus
-        (counts_plus s b (λ ds p q. omega (arith, p.high, q.0.arranged.size)))
+        (counts_plus s b (λ ds p q. omega (arith, h.low, p.high, q.0.arranged.size)))
         (counts_one cs refl (λ ds e. e))
-        (λ ds p e. apart ds p e)))
+        (λ ds p e. apart ds p e))
       where
         apart : (ds : List Cell) → Sized L Q (n - 1) ds ⊎ (Candidate Q n ds × CellsBefore ds cs)
             → ds ≡ cs → ⊥
-        apart ds (inl p) e = omega (arith, p.high, ap length e, size)
+        apart ds (inl p) e = omega (arith, h.low, p.high, ap length e, size)
         apart ds (inr p) e = never cs (subst (λ (z : List Cell). CellsBefore z cs) e p.1)
 
 -- ---- over the members of a set

@@ -14,9 +14,9 @@ ghost use Rattle.tried_count.specs.Ways.{sum, ways, lesser, whole_of, rank_from}
 ghost use Rattle.tried_count.specs.Rows.{at, Low, OneCellMore, RowOf, Fair, Fairs};
 ghost use Rattle.tried_count.specs.Rows.{members_below_of};
 ghost use Rattle.tried_count.specs.Rows.{cell_rank};
-ghost use Rattle.tried_count.specs.Searched.{Long, answer_of, Hit};
+ghost use Rattle.tried_count.specs.Searched.{Long, answer_of, Hits};
 
-use candidates::{Candidate, terminal_count};
+use candidates::{Candidate, members_below, terminal_count};
 use grammar::Cell;
 use sets::has;
 
@@ -32,10 +32,8 @@ fn sum_between(row: Row, a: usize, b: usize) -> u64
     ensures { result ≡ sum (at row) a (b - a) }
 {
     let mut s: u64 = 0;
-    let mut k = a;
-    while k < b {
-        k += 1;
-        s += row.ways[k];
+    for k in a..b {
+        s += row.ways[k + 1];
     }
     s
 }
@@ -65,10 +63,8 @@ fn grown(row: Row, t: u64, n: usize) -> Row
     ensures { OneCellMore t n row result }
 {
     let mut next = Row { ways: [0; 8] };
-    let mut p: usize = 0;
-    while p <= n {
+    for p in 0..=n {
         next.ways[p] = t * ways_at(row, n, 2, p);
-        p += 1;
     }
     next
 }
@@ -79,10 +75,8 @@ fn row_of(t: u64, n: usize, r: usize) -> Row
     ensures { RowOf t n r result }
 {
     let mut row = Row { ways: [1; 8] };
-    let mut i: usize = 0;
-    while i < r {
+    for i in 0..r {
         row = grown(row, t, n);
-        i += 1;
     }
     row
 }
@@ -94,20 +88,6 @@ fn whole(t: u64, n: usize) -> u64
 {
     let row = row_of(t, n, n - 1);
     t * ways_at(row, n, 0, 0)
-}
-
-// How many members of the set are below a.
-fn members_below(set: u64, a: u8) -> u64
-    requires { a ≤ 64 }
-    ensures { result ≡ members_below_of set a }
-{
-    let mut n: u64 = 0;
-    let mut i: u8 = 0;
-    while i < a {
-        n += (set >> i) % 2;
-        i += 1;
-    }
-    n
 }
 
 // The cells before d after a token in column p, each with the ways to go on after it.
@@ -131,14 +111,12 @@ fn rank(c: Candidate, set: u64, t: u64, n: usize) -> u64
     let mut total: u64 = 0;
     let mut m: u64 = 0;
     let mut p: usize = 0;
-    let mut i: usize = 0;
-    while i < n {
+    for i in 0..n {
         let row = row_of(t, n, n - 1 - i);
-        let d = c.cell(i);
+        let d = c.cells[i];
         total += cell_rank(row, set, n, m, p, d);
         m = 2;
         p = d.column as usize;
-        i += 1;
     }
     total
 }
@@ -163,25 +141,31 @@ fn up_to(lengths: u64, set: u64, k: usize) -> u64
     ensures upper_bound { result ≤ k * 5772436045824 }
 {
     let mut total: u64 = 0;
-    let mut n: usize = 0;
-    while n < k {
-        n += 1;
+    for n in 1..=k {
         total += of_length(lengths, set, n);
     }
     total
 }
 
-// The number of candidates tried by a search up to k that found c, of n tokens, or nothing where n
-// is 0.
-pub fn tried(lengths: u64, set: u64, k: usize, n: usize, c: Candidate) -> u64
+// What a search finds: a candidate, and its length.
+#[derive(Clone, Copy)]
+pub struct Hit {
+    pub length: usize,
+    pub candidate: Candidate,
+}
+
+// The number of candidates tried by a search up to k that found a hit, or nothing.
+pub fn tried(lengths: u64, set: u64, k: usize, found: Option<Hit>) -> u64
     requires fair { Fair (ones set) k }
-    requires hit { Hit (In lengths) (Among set) k n (cells c 0 n) }
-    ensures { HowMany (Tried (In lengths) (Among set) k (answer_of n (cells c 0 n))) result }
+    requires hit { Hits (In lengths) (Among set) k found }
+    ensures { HowMany (Tried (In lengths) (Among set) k (answer_of found)) result }
 {
-    if n == 0 {
-        return up_to(lengths, set, k);
+    match found {
+        None => up_to(lengths, set, k),
+        Some(h) => {
+            let t = terminal_count(set);
+            let shorter = up_to(lengths, set, h.length - 1);
+            shorter + rank(h.candidate, set, t, h.length) + 1
+        }
     }
-    let t = terminal_count(set);
-    let shorter = up_to(lengths, set, n - 1);
-    shorter + rank(c, set, t, n) + 1
 }

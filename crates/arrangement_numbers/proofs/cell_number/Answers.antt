@@ -2,21 +2,22 @@
 use Prim.Native.Nat.{◌≤◌}
 use native.Mathlib.Omega.{arith}
 use Rattle.arrangement_numbers.proofs.Working.{digit_is, digit_small, product_small}
-use Rattle.arrangement_numbers.proofs.Working.{largest_small, place_small}
+use Rattle.arrangement_numbers.proofs.Working.{largest_small}
+use Rattle.candidates.proofs.Members.{below_small}
 use Rattle.arrangement_numbers.proofs.cell_number.Goals.{After-steps_at}
 use Rattle.arrangement_numbers.proofs.cell_number.Goals as goal
 
-pub place-t-requires : goal.place-t-requires
-place-t-requires c = c.requires.ranged.terminal.0
+pub members_below-t-requires : goal.members_below-t-requires
+members_below-t-requires c = c.requires.ranged.terminal.0
 
 -- the terminal's place is at most 64, the step at most 2
-low : (c : After-steps_at) → c.place-t.result ≤ 64
+low : (c : After-steps_at) → c.members_below-t.result ≤ 64
 low c =
-    let p = c.place-t in
+    let p = c.members_below-t in
     omega (
       arith,
       p.ensures,
-      place_small c.args.set c.args.c.terminal,
+      below_small c.args.set c.args.c.terminal,
       c.requires.ranged.terminal.0,
     )
 
@@ -50,4 +51,4 @@ overflow_add-result-2 c =
 pub returns : goal.returns
 returns c =
     digit_is c.args.set c.args.n c.args.i _ _ c.args.c
-    c.place-t.ensures c.steps_at.ensures
+    c.members_below-t.ensures c.steps_at.ensures

@@ -15,15 +15,12 @@ below c = omega (arith, c.well_formed)
 pub loop-i-init : goal.loop-i-init
 loop-i-init c = (omega arith, refl)
 
-pub cell-d-requires : goal.cell-d-requires
-cell-d-requires c = omega (arith, c.requires.few.high, c.requires.b_le_n, c.loop-i-test.true)
-
 pub cell_number-x-requires : goal.cell_number-x-requires
 cell_number-x-requires c = record {
   n_bound = c.requires.few.high;
   ranged = ranged_at c.args.set c.args.n (below c.before.before.before) c.requires.few c.args.c
       c.requires.candidate c.loop-i.i (omega (arith, c.requires.b_le_n, c.loop-i-test.true)) _
-      c.cell-d.ensures;
+      refl;
 }
 
 pub choices_at-requires : goal.choices_at-requires
@@ -37,7 +34,7 @@ overflow_mul-v c =
           c.args.c
           c.requires.candidate c.loop-i.i _ _ _ _
           (omega (arith, c.requires.b_le_n, c.loop-i-test.true))
-          c.loop-i.invariant.1 c.choices_at.ensures c.cell-d.ensures
+          c.loop-i.invariant.1 c.choices_at.ensures refl
           c.cell_number-x.ensures,
     )
 
@@ -49,7 +46,7 @@ overflow_add-v c =
           c.args.c
           c.requires.candidate c.loop-i.i _ _ _ _
           (omega (arith, c.requires.b_le_n, c.loop-i-test.true))
-          c.loop-i.invariant.1 c.choices_at.ensures c.cell-d.ensures
+          c.loop-i.invariant.1 c.choices_at.ensures refl
           c.cell_number-x.ensures,
     )
 
@@ -62,7 +59,7 @@ loop-i-preserved c = (
         arith,
         c.requires.b_le_n,
         c.loop-i-test.true,
-      )) c.loop-i.invariant.1 c.choices_at.ensures c.cell-d.ensures
+      )) c.loop-i.invariant.1 c.choices_at.ensures refl
       c.cell_number-x.ensures,
 )
 

@@ -1,7 +1,8 @@
 -- How many share the first cells, from the last token on.
-use mathlib.Core.Path.{◌≡◌, refl}
+use mathlib.Core.Path.{◌≡◌, refl, ◌∙◌}
 use Prim.Native.Nat.{◌<◌, ◌^◌}
 use native.Mathlib.Omega.{arith}
+use native.Mathlib.Nat.{mul_comm}
 use Rattle.arrangement_numbers.proofs.Working.{room_end, room_turn, room_fits}
 use Rattle.arrangement_numbers.proofs.room_past.Lts
 use Rattle.arrangement_numbers.proofs.room_past.Reads
@@ -19,9 +20,6 @@ loop-i-init c = (
   room_end c.args.set c.args.n (below c) c.requires.few
       c.args.n refl,
 )
-
-pub overflow_sub-i : goal.overflow_sub-i
-overflow_sub-i c = omega (arith, c.loop-i-test.true)
 
 pub choices_at-v-requires : goal.choices_at-v-requires
 choices_at-v-requires c = c.requires.few.high
@@ -42,7 +40,8 @@ pub loop-i-preserved : goal.loop-i-preserved
 loop-i-preserved c = (
   omega (arith, c.loop-i-test.true),
   omega (arith, c.loop-i.invariant.1),
-  room_turn
+  mul_comm c.loop-i.v _
+      ∙ room_turn
       c.args.set c.args.n (below c.before.before.before) c.requires.few c.loop-i.i _ _
       (omega (arith, c.loop-i-test.true)) c.loop-i.invariant.1 c.loop-i.invariant.2
       c.choices_at-v.ensures,

@@ -6,6 +6,3 @@ use Rattle.arrangement_numbers.proofs.room_past.Given as goal
 
 abbrev pub invariant-loop-i : goal.invariant-loop-i
 invariant-loop-i l = (l.b ≤ l.i) × (l.i ≤ l.n) × (l.v ≡ room l.set l.n l.i)
-
-abbrev pub decreases-loop-i : goal.decreases-loop-i
-decreases-loop-i l = l.i

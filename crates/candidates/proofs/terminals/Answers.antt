@@ -1,24 +1,23 @@
-use mathlib.Core.Path.{◌≡◌}
 use native.Mathlib.Omega.{arith}
-use borrow.Author.Rules.{rules}
+use mathlib.Core.Path.{subst}
+use Rattle.std.proofs.lemmas.List.{take_all}
+use Rattle.grammar.specs.Trees.{Rules}
+use Rattle.grammar.specs.Content.{rules_of}
+use Rattle.candidates.specs.Terminals.{Terminals}
 use Rattle.candidates.proofs.TerminalSets.{terminals_none, terminals_step, small_at}
 use Rattle.candidates.proofs.terminals.Goals as goal
 
-pub loop-i-init : goal.loop-i-init
-loop-i-init c = (search rules, terminals_none)
+pub loop-r-init : goal.loop-r-init
+loop-r-init c = terminals_none
 
 pub with_terminal-set-requires : goal.with_terminal-set-requires
-with_terminal-set-requires c = small_at _ _ _ c.loop-i-test.true (search rules) c.requires
+with_terminal-set-requires c = small_at c.requires _ _ c.loop-r-test.true
 
-pub loop-i-preserved : goal.loop-i-preserved
-loop-i-preserved c = (
-  search rules,
-  terminals_step _ _ _ _ _ (search rules)
-      c.loop-i.invariant.1 c.with_terminal-set.ensures,
-)
+pub loop-r-preserved : goal.loop-r-preserved
+loop-r-preserved c =
+    terminals_step _ _ _ _ _ c.loop-r-test.true c.loop-r.invariant c.with_terminal-set.ensures
 
 pub returns : goal.returns
 returns c =
-    let e : c.loop-i.i ≡ c.args.g.count =
-    omega (arith, c.loop-i-test.false, c.loop-i.invariant.0) in
-    rw e at c.loop-i.invariant.1
+    subst (λ (r : Rules). Terminals r c.loop-r.set)
+    (take_all _ (rules_of c.args.g) (omega arith)) c.loop-r.invariant

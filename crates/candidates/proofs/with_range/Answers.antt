@@ -1,34 +1,26 @@
-use Prim.Native.Nat.{◌<◌}
+use Prim.Native.Nat.{◌+◌}
 use mathlib.Core.Path.{refl}
-use mathlib.Core.Logic.{inl, inr}
+use mathlib.Core.Logic.{inl, inr, ⊎_elim}
 use native.Mathlib.Omega.{arith}
 use Rattle.candidates.proofs.TerminalSets.{reached_none, reached_more, reached_all}
 use Rattle.candidates.proofs.with_range.Goals as goal
 
 pub loop-i-init : goal.loop-i-init
-loop-i-init c = (omega arith, inl refl, reached_none _ _)
-
-pub with-u-requires : goal.with-u-requires
-with-u-requires c = omega (arith, c.loop-i-test.true, c.requires)
-
-pub overflow_add-i : goal.overflow_add-i
-overflow_add-i c = omega (arith, c.loop-i-test.true, c.requires)
-
-pub loop-i-smaller : goal.loop-i-smaller
-loop-i-smaller c = omega (arith, c.loop-i-test.true)
+loop-i-init c = (inl refl, reached_none _ _)
 
 pub loop-i-preserved : goal.loop-i-preserved
-loop-i-preserved c =
-    let l = c.loop-i in (
-      omega (arith, l.invariant.0),
-      inr (omega (arith, c.loop-i-test.true)),
-      reached_more _ _ _
-          _ _ l.invariant.0 l.invariant.2 c.with-u.ensures,
-    )
+loop-i-preserved c = (
+  inr (omega arith),
+  reached_more _ _ _ _ _ (omega arith) c.loop-i.invariant.1 c.with-u.ensures,
+)
+
+-- after the last number
+pub returns-2 : goal.returns-2
+returns-2 c =
+    reached_all _ _ _ (c.loop-i.i + 1) _ (omega arith) (inr (omega arith))
+    (reached_more _ _ _ _ _ (omega arith) c.loop-i.invariant.1 c.with-u.ensures)
 
 pub returns : goal.returns
 returns c =
-    let l = c.loop-i in
-    let a = c.args in
-    let h : a.b < l.i = omega (arith, c.loop-i-test.false) in
-    reached_all a.set a.a a.b l.i l.u h l.invariant.1 l.invariant.2
+    reached_all _ _ _ c.loop-i.i _ c.loop-i-test.false
+    (⊎_elim inl (λ h. inr (omega arith)) c.loop-i.invariant.0) c.loop-i.invariant.1

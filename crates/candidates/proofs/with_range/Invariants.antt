@@ -1,12 +1,9 @@
 -- The loop's invariant: the set has the numbers from a to below i besides.
-use Prim.Native.Nat.{◌+◌, ◌-◌, ◌≤◌}
+use Prim.Native.Nat.{◌≤◌}
 use mathlib.Core.Path.{◌≡◌}
 use mathlib.Core.Logic.{◌⊎◌}
 use Rattle.candidates.proofs.TerminalSets.{Reached}
 use Rattle.candidates.proofs.with_range.Given as goal
 
 abbrev pub invariant-loop-i : goal.invariant-loop-i
-invariant-loop-i l = (l.a ≤ l.i) × ((l.i ≡ l.a) ⊎ (l.i ≤ l.b + 1)) × Reached l.set l.a l.i l.u
-
-abbrev pub decreases-loop-i : goal.decreases-loop-i
-decreases-loop-i l = l.b + 1 - l.i
+invariant-loop-i l = ((l.i ≡ l.a) ⊎ (l.i ≤ l.b)) × Reached l.set l.a l.i l.u

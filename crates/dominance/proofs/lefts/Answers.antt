@@ -1,26 +1,24 @@
-use mathlib.Core.Path.{◌≡◌}
+use mathlib.Core.Path.{subst}
 use native.Mathlib.Omega.{arith}
-use borrow.Author.Rules.{rules}
-use Rattle.candidates.proofs.TerminalSets.{small_rule_at}
+use Rattle.std.proofs.lemmas.List.{take_all}
+use Rattle.grammar.specs.Trees.{Rules}
+use Rattle.grammar.specs.Content.{rules_of, SmallRule}
+use Rattle.grammar.proofs.Lists.{every_at}
+use Rattle.dominance.specs.Dominance.{Lefts}
 use Rattle.dominance.proofs.LeftSets.{lefts_none, lefts_step}
 use Rattle.dominance.proofs.lefts.Goals as goal
 
-pub loop-i-init : goal.loop-i-init
-loop-i-init c = (omega arith, lefts_none c.args.a)
+pub loop-r-init : goal.loop-r-init
+loop-r-init c = lefts_none c.args.a
 
 pub with_left-set-requires : goal.with_left-set-requires
-with_left-set-requires c = small_rule_at _ _ _ c.loop-i-test.true (search rules)
-    c.requires
+with_left-set-requires c = every_at SmallRule _ _ c.requires.small _ c.loop-r-test.true
 
-pub loop-i-preserved : goal.loop-i-preserved
-loop-i-preserved c = (
-  search rules,
-  lefts_step _ _ _ _ _ _ (search rules)
-      c.loop-i.invariant.1 c.with_left-set.ensures,
-)
+pub loop-r-preserved : goal.loop-r-preserved
+loop-r-preserved c =
+    lefts_step _ _ _ _ _ _ c.loop-r-test.true c.loop-r.invariant c.with_left-set.ensures
 
 pub returns : goal.returns
 returns c =
-    let e : c.loop-i.i ≡ c.args.g.count =
-    omega (arith, c.loop-i-test.false, c.loop-i.invariant.0) in
-    rw e at c.loop-i.invariant.1
+    subst (λ (r : Rules). Lefts r c.args.a c.loop-r.set)
+    (take_all _ (rules_of c.args.g) (omega arith)) c.loop-r.invariant

@@ -16,8 +16,5 @@ returns-then-serves c =
     c.loop-y.y c.loop-y-test.true l.ensures
     (c.serves.ensures c.if-serves.true)
 
-pub overflow_add-y : goal.overflow_add-y
-overflow_add-y c = omega (arith, c.requires.x_bound)
-
 pub returns : goal.returns
 returns c = λ e. absurd (true_not_false (sym e))

@@ -1,22 +1,12 @@
-use mathlib.Core.Path.{sym}
-use native.Mathlib.Omega.{arith}
-use Rattle.sets.proofs.Says.{true_not_false}
-use Rattle.dominance.proofs.LeftSets.{part_more}
+-- A set that adds nothing to another is a part of it.
+use mathlib.Core.Path.{◌≡◌}
+use mathlib.Core.Logic.{inl}
+use borrow.Author.Tests.{eqb-true}
+use lib.Bits.{bit_or}
+use Rattle.sets.proofs.Bits.{in_or}
 use Rattle.dominance.proofs.within.Goals as goal
 
-pub loop-a-init : goal.loop-a-init
-loop-a-init c = (omega arith, λ x h. absurd (omega arith))
-
-pub returns-then-lacks : goal.returns-then-lacks
-returns-then-lacks c = λ e. absurd (true_not_false (sym e))
-
-pub loop-a-preserved : goal.loop-a-preserved
-loop-a-preserved c = (
-  omega arith,
-  part_more _ _ _ c.loop-a.invariant.1
-      (c.lacks.ensures c.if-lacks.false),
-)
-
 pub returns : goal.returns
-returns c =
-    λ e. record { each = λ A h m. c.loop-a.invariant.1 A (omega (arith, c.loop-a-test.false)) m }
+returns c e =
+    let s : bit_or c.args.s c.args.t ≡ c.args.t = eqb-true _ _ e in
+    record { each = λ A h m. rw s at (in_or c.args.s c.args.t A).1 (inl m) }

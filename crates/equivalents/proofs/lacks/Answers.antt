@@ -4,21 +4,11 @@ use mathlib.Core.Bool.{false, not}
 use Prim.Native.Nat.{ℕ, ◌+◌}
 use Rattle.candidates.specs.Arrays.{cells}
 use Rattle.equivalents.proofs.Lacking.{lacking_used, lacking_want, lacking_else, lacking_le}
+use Rattle.equivalents.proofs.lacks.Goals.{then-uses, else-uses+then-w, else-uses+else-w}
 use Rattle.equivalents.proofs.lacks.Goals as goal
 
 pub loop-j-init : goal.loop-j-init
 loop-j-init c = (omega arith, omega arith)
-
-pub loop-j-preserved-then-uses : goal.loop-j-preserved-then-uses
-loop-j-preserved-then-uses c = (
-  omega (arith, c.loop-j.invariant.0),
-  c.loop-j.invariant.1 ∙ ap (λ (x : ℕ). c.loop-j.v + x)
-      (lacking_used (cells c.args.c 0 c.args.h) (cells c.args.c 0 c.args.b)
-      c.loop-j.j c.loop-j.w (not c.uses-w.result)
-      c.loop-j-test.true
-      (sym c.uses.ensures ∙ c.if-uses.true)
-      (ap not c.uses-w.ensures)),
-)
 
 pub overflow_add-v : goal.overflow_add-v
 overflow_add-v c =
@@ -30,19 +20,25 @@ overflow_add-v c =
       c.requires.2,
     )
 
-pub loop-j-preserved-then-w : goal.loop-j-preserved-then-w
-loop-j-preserved-then-w c =
-    let e = lacking_want (cells c.args.c 0 c.args.h) (cells c.args.c 0 c.args.b)
-    c.loop-j.j c.loop-j.w c.loop-j-test.true
-    (sym c.uses.ensures ∙ c.if-uses.false) c.if-w.true in
-    (omega (arith, c.loop-j.invariant.0), omega (arith, c.loop-j.invariant.1, e))
-
 pub loop-j-preserved : goal.loop-j-preserved
-loop-j-preserved c =
-    let e = lacking_else (cells c.args.c 0 c.args.h) (cells c.args.c 0 c.args.b)
-    c.loop-j.j c.loop-j.w c.loop-j-test.true
-    (sym c.uses.ensures ∙ c.if-uses.false) c.if-w.false in
-    (omega (arith, c.loop-j.invariant.0), omega (arith, c.loop-j.invariant.1, e))
+loop-j-preserved c = (
+  omega arith,
+  elim c.if-uses.branch [
+    | then-uses w ↦
+        rw (w.w-is, w.v-is) (c.loop-j.invariant.1 ∙ ap (λ (x : ℕ). c.loop-j.v + x)
+        (lacking_used (cells c.args.c 0 c.args.h) (cells c.args.c 0 c.args.b)
+        c.loop-j.j c.loop-j.w (not w.uses-w.result) (omega arith)
+        (sym c.uses.ensures ∙ w.if-uses.true) (ap not w.uses-w.ensures)))
+    | else-uses+then-w w ↦
+        let e = lacking_want (cells c.args.c 0 c.args.h) (cells c.args.c 0 c.args.b)
+        c.loop-j.j c.loop-j.w (omega arith) (sym c.uses.ensures ∙ w.if-uses.false) w.if-w.true in
+        rw (w.w-is, w.v-is) (omega (arith, c.loop-j.invariant.1, e))
+    | else-uses+else-w w ↦
+        let e = lacking_else (cells c.args.c 0 c.args.h) (cells c.args.c 0 c.args.b)
+        c.loop-j.j c.loop-j.w (omega arith) (sym c.uses.ensures ∙ w.if-uses.false) w.if-w.false in
+        rw (w.w-is, w.v-is) (omega (arith, c.loop-j.invariant.1, e))
+  ],
+)
 
 pub returns : goal.returns
 returns c =

@@ -11,6 +11,3 @@ abbrev pub invariant-loop-j : goal.invariant-loop-j
 invariant-loop-j l = (l.j ≤ l.n)
     × (lacking l.n false (cells l.c 0 l.h) (cells l.c 0 l.b) ≡ l.v
     + lacking l.j l.w (cells l.c 0 l.h) (cells l.c 0 l.b))
-
-abbrev pub decreases-loop-j : goal.decreases-loop-j
-decreases-loop-j l = l.j

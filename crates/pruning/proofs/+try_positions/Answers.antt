@@ -55,9 +55,6 @@ try_position-requires t c =
       mirrored = l.invariant.3;
     }
 
-pub overflow_add-k : goal.overflow_add-k
-overflow_add-k t c = omega (arith, c.loop-k-test.true, c.requires.n_bound.0)
-
 pub loop-k-smaller-then-try_position : goal.loop-k-smaller-then-try_position
 loop-k-smaller-then-try_position t c = omega (arith, c.loop-k-test.true)
 
@@ -114,9 +111,6 @@ returns-then-try_positions t c = record {
   };
   mirrored_2 = c.try_positions.ensures.mirrored_2;
 }
-
-pub overflow_add-k-in-loop-k : goal.overflow_add-k-in-loop-k
-overflow_add-k-in-loop-k t c = omega (arith, c.loop-k-test.true, c.requires.n_bound.0)
 
 pub loop-k-smaller : goal.loop-k-smaller
 loop-k-smaller t c = omega (arith, c.loop-k-test.true)

@@ -20,6 +20,3 @@ invariant-loop-k l = Past (2 * pairs l.n) l.initial.words l.words
     × ((s : ℕ) → PositionsTwinned (rules_of l.g) s l.n l.h l.i l.k (cells l.c 0 l.n))
     × Mirrored (rules_of l.g) l.n l.words l.cuts
     × (length l.cuts ≡ length l.initial.cuts)
-
-abbrev pub decreases-loop-k : goal.decreases-loop-k
-decreases-loop-k l = 3 * l.n - l.k

@@ -52,9 +52,6 @@ loop-x-init t c = (
 pub has-requires : goal.has-requires
 has-requires t c = c.loop-x-test.true
 
-pub overflow_add-x : goal.overflow_add-x
-overflow_add-x t c = omega (arith, c.loop-x-test.true)
-
 pub loop-x-smaller-then-not-has : goal.loop-x-smaller-then-not-has
 loop-x-smaller-then-not-has t c = omega (arith, c.loop-x-test.true)
 
@@ -99,9 +96,6 @@ try_terminal-requires t c =
       terminal_open = loose_with_terminal low m.0 l.invariant.1;
       mirrored = l.invariant.4;
     }
-
-pub overflow_add-x-then-try_terminal : goal.overflow_add-x-then-try_terminal
-overflow_add-x-then-try_terminal t c = omega (arith, c.loop-x-test.true)
 
 pub loop-x-smaller-then-try_terminal : goal.loop-x-smaller-then-try_terminal
 loop-x-smaller-then-try_terminal t c = omega (arith, c.loop-x-test.true)
@@ -168,9 +162,6 @@ returns-then-try_terminals t c = record {
   };
   mirrored_2 = c.try_terminals.ensures.mirrored_2;
 }
-
-pub overflow_add-x-in-loop-x : goal.overflow_add-x-in-loop-x
-overflow_add-x-in-loop-x t c = omega (arith, c.loop-x-test.true)
 
 pub loop-x-smaller : goal.loop-x-smaller
 loop-x-smaller t c = omega (arith, c.loop-x-test.true)

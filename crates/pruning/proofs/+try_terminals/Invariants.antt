@@ -2,7 +2,7 @@
 -- next one are refuted there; the measure is j.
 use mathlib.Core.Path.{◌≡◌}
 use lib.ListN.{length}
-use Prim.Native.Nat.{◌-◌, ◌*◌, ◌≤◌}
+use Prim.Native.Nat.{◌*◌, ◌≤◌}
 use Rattle.grammar.specs.SpanSheet.{pairs}
 use Rattle.spans.specs.Changes.{Past}
 use Rattle.candidates.specs.Arrays.{cells}
@@ -20,6 +20,3 @@ invariant-loop-x l = Past (2 * pairs l.n) l.initial.words l.words
     × TerminalsTwinned (rules_of l.g) l.set l.n l.h l.b l.i l.x (cells l.c 0 l.n) × (l.x ≤ 64)
     × Mirrored (rules_of l.g) l.n l.words l.cuts
     × (length l.cuts ≡ length l.initial.cuts)
-
-abbrev pub decreases-loop-x : goal.decreases-loop-x
-decreases-loop-x l = 64 - l.x

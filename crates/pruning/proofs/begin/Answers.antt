@@ -4,7 +4,6 @@ use Rattle.spans.proofs.ChangeLaws.{past_then}
 use Rattle.candidates.proofs.Spelling.{low_steps}
 use Rattle.pruning.proofs.TableLaws.{small_cells}
 use Rattle.pruning.proofs.Trying.{laid_ready, poised_start, charted_past}
-use Rattle.refilling.specs.Short.{wide}
 use Rattle.pruning.proofs.begin.Goals as goal
 
 pub put_leaves-requires : goal.put_leaves-requires
@@ -30,7 +29,7 @@ refill-requires c =
       );
       count_in_bounds = rw e.1 (omega (arith, c.requires.n_in_bounds, l.tokens.past.long));
       formed = c.requires.formed;
-      ready = laid_ready (wide d.result) c.requires.n_bound.1 c.requires.n_bound.2 e.0 e.1
+      ready = laid_ready d.result c.requires.n_bound.1 c.requires.n_bound.2 e.0 e.1
           e.2 c.requires.tabled l;
       mirrored = rw e.1
           c.put_leaves.ensures.mirrored_2;
@@ -43,8 +42,8 @@ returns c =
     let l = c.put_leaves.ensures.leaves_put in
     let f = c.refill.ensures.charted in record {
       terminals_filled =
-          poised_start (wide d.result) c.requires.n_bound.1 e.0 e.1 e.2 c.requires.tabled l f;
-      past = past_then l.tokens.past (charted_past (wide d.result) e.1 f);
+          poised_start d.result c.requires.n_bound.1 e.0 e.1 e.2 c.requires.tabled l f;
+      past = past_then l.tokens.past (charted_past d.result e.1 f);
       mirrored_2 = rw e.1 at
           c.refill.ensures.mirrored_2;
     }

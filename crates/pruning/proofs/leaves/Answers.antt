@@ -3,6 +3,7 @@ use Prim.Native.Nat.{ℕ}
 use native.Mathlib.Omega.{arith}
 use Rattle.pruning.specs.Tables.{Gathered}
 use Rattle.pruning.proofs.TableLaws.{gathered_none, gathered_skip, gathered_more}
+use Rattle.pruning.proofs.TableLaws.{united_or}
 use Rattle.grammar.specs.Content.{rules_of}
 use Rattle.pruning.proofs.leaves.Goals as goal
 
@@ -31,12 +32,6 @@ write-requires c = omega (
   c.requires.table_len,
 )
 
-pub united-any-requires : goal.united-any-requires
-united-any-requires c = tt
-
-pub united-twice-requires : goal.united-twice-requires
-united-twice-requires c = tt
-
 pub loop-x-preserved : goal.loop-x-preserved
 loop-x-preserved c = (
   omega (
@@ -45,7 +40,7 @@ loop-x-preserved c = (
   ),
   gathered_more
       c.loop-x.invariant.1 c.loop-x-test.true c.leaf_pair-l.ensures c.write.ensures
-      c.united-any.ensures c.united-twice.ensures,
+      (united_or _ _) (united_or _ _),
 )
 
 pub shape_of-table : goal.shape_of-table

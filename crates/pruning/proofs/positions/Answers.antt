@@ -3,7 +3,6 @@ use native.Mathlib.Omega.{arith}
 use Rattle.sets.proofs.Says.{true_not_false}
 use Rattle.candidates.proofs.Windows.{cells_size}
 use Rattle.pruning.proofs.Trying.{ready_again, spent}
-use Rattle.refilling.specs.Short.{wide}
 use Rattle.pruning.proofs.positions.Goals as goal
 
 pub try_positions-requires : goal.try_positions-requires
@@ -32,7 +31,7 @@ no_two-requires c =
       );
       count_in_bounds = rw e.1 (omega (arith, q.past.long, c.requires.n_in_bounds));
       formed = c.requires.formed;
-      ready = ready_again (wide d.result) c.requires.n_bound.1 (cells_size a.c 0 a.n)
+      ready = ready_again d.result c.requires.n_bound.1 (cells_size a.c 0 a.n)
           e.0 e.1 e.2 (q.stays c.if-try_positions.false);
       mirrored = rw e.1
           c.try_positions.ensures.mirrored_2;
@@ -42,7 +41,7 @@ pub returns : goal.returns
 returns c =
     let d = c.draft-d in
     let e = d.ensures in record {
-      all_positions_searched = spent (wide d.result) c.if-try_positions.false e.0 e.1 e.2
+      all_positions_searched = spent d.result c.if-try_positions.false e.0 e.1 e.2
           c.try_positions.ensures.positions_searched
           c.no_two.ensures.settles;
       mirrored_2 = rw e.1 at

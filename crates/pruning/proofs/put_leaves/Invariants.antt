@@ -1,7 +1,6 @@
 -- The loop's invariant: the tokens passed have their pairs. The empty word's is written last.
 use mathlib.Core.Path.{◌≡◌}
 use lib.ListN.{length}
-use Prim.Native.Nat.{◌-◌}
 use Rattle.candidates.specs.Arrays.{cells}
 use Rattle.pruning.specs.Tables.{LeavesPutTo}
 use Rattle.grammar.specs.Content.{rules_of}
@@ -13,6 +12,3 @@ invariant-loop-i l =
     LeavesPutTo l.table (cells l.c 0 l.n) l.n l.b l.i l.initial.words l.words
     × Mirrored (rules_of l.g) l.n l.words l.cuts
     × (length l.cuts ≡ length l.initial.cuts)
-
-abbrev pub decreases-loop-i : goal.decreases-loop-i
-decreases-loop-i l = l.n - l.i

@@ -1,5 +1,5 @@
 -- By the place of the token.
-use mathlib.Core.Path.{sym, ap, ◌∙◌}
+use mathlib.Core.Path.{sym, ap}
 use native.Mathlib.Omega.{arith}
 use Rattle.grammar.specs.declared.Cell.{Cell}
 use Rattle.pruning.proofs.CellLaws.{cells_get}
@@ -9,8 +9,6 @@ pub returns-then-i-b : goal.returns-then-i-b
 returns-then-i-b c =
     let a = c.args in
     record {
-      known = λ h. ap (λ (d : Cell). d.terminal)
-          (c.cell-d.ensures ∙ sym (cells_get a.c a.n a.i c.requires.1));
-      free =
-          λ h. absurd (omega (arith, c.if-i-b.true));
+      known = λ h. ap (λ (d : Cell). d.terminal) (sym (cells_get a.c a.n a.i c.requires.1));
+      free = λ h. absurd (omega (arith, c.if-i-b.true));
     }

@@ -4,7 +4,6 @@ use native.Mathlib.Omega.{arith}
 use Rattle.candidates.proofs.Windows.{cells_size}
 use Rattle.pruning.proofs.RefutingLaws.{refuted_falling, refuted_earlier_twin}
 use Rattle.pruning.proofs.Trying.{tried_out, tried_settled, ready_draft}
-use Rattle.refilling.specs.Short.{wide}
 use Rattle.pruning.proofs.try_position.Goals as goal
 
 pub returns-then-not-rises : goal.returns-then-not-rises
@@ -36,7 +35,7 @@ no_two-requires c =
       );
       count_in_bounds = rw e.1 c.requires.n_in_bounds;
       formed = c.requires.formed;
-      ready = ready_draft (wide d.result) c.requires.n_bound.1 (cells_size a.c 0 a.n) e.0 e.1
+      ready = ready_draft d.result c.requires.n_bound.1 (cells_size a.c 0 a.n) e.0 e.1
           e.2 c.requires.positions_filled;
       mirrored = rw e.1 c.requires.mirrored;
     }
@@ -47,7 +46,7 @@ returns c =
     let d = c.draft-d in
     let e = d.ensures in record {
       position_tried =
-          tried_settled (wide d.result) c.requires.n_bound.1 (cells_size a.c 0 a.n) e.0 e.1
+          tried_settled d.result c.requires.n_bound.1 (cells_size a.c 0 a.n) e.0 e.1
           e.2
           c.requires.positions_filled c.no_two.ensures.settles;
       mirrored_2 = rw e.1 at

@@ -9,13 +9,12 @@ use Rattle.share_search.proofs.Reports.{few_of, found_of, found_none}
 use Rattle.reachable_rules.proofs.TreeLaws.{two_trimmed}
 use Rattle.share_search.proofs.find.Goals as goal
 
-pub returns-in_default : goal.returns-in_default
-returns-in_default c =
-    let s = c.terminals-set in
-    let f = c.first_from-least in record {
-      found = found_none (among_terminal c.args.g s.result c.requires.formed s.ensures)
-          c.requires.le_n.0 c.nothing.ensures
-          (none_of _ f.result c.in_default.is f.ensures);
+pub returns-in_err-low : goal.returns-in_err-low
+returns-in_err-low c =
+    let s = c.terminals-set in record {
+      found = rw c.from_residual.ensures
+          (found_none (among_terminal c.args.g s.result c.requires.formed s.ensures)
+          c.requires.le_n.0 (none_of _ c.in_err-low.ensures));
       past = past_same _ _;
     }
 
@@ -26,10 +25,8 @@ pub search_over-requires : goal.search_over-requires
 search_over-requires c =
     let s = c.terminals-set in
     let sm : s.result < 2 ^ 64 = search rules in
-    let f = c.first_from-least in
     let r = c.reachable-few.ensures in
-    let w = lowest_of _ f.result _ c.in-At.is
-    f.ensures in record {
+    let w = lowest_of _ _ c.in_ok-low.ensures in record {
       few = (
         few_of _ _ c.args.n _ sm
             c.requires.le_n.0 c.requires.le_n.1 s.ensures w c.requires.n_bound,
@@ -49,7 +46,7 @@ returns c =
       found = found_of s.result c.args.n
           sm
           s.ensures (among_terminal c.args.g s.result c.requires.formed s.ensures)
-          (λ w. two_trimmed c.reachable-few.ensures.0)
+          (λ w. two_trimmed c.reachable-few.ensures.0) _ _ _
           q.ensures.searched;
       past = q.ensures.past;
     }

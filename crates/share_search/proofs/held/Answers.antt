@@ -11,6 +11,3 @@ block_of-k-requires c = record {
 
 pub loop-h-preserved : goal.loop-h-preserved
 loop-h-preserved c = omega (arith, c.loop-h-test.true)
-
-pub returns : goal.returns
-returns c = λ h. absurd (omega arith)

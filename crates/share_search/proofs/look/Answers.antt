@@ -1,7 +1,7 @@
 -- By the numbers of the block, by the candidate itself where all cells are known, or by twins whose
 -- numbers are not below the start.
 use native.Mathlib.Omega.{arith}
-use Prim.Native.Nat.{◌^◌, ◌<◌, ◌≤◌}
+use Prim.Native.Nat.{◌^◌, ◌<◌}
 use Rattle.spans.proofs.ChangeLaws.{past_same}
 use Rattle.share_search.proofs.Looking.{looked_early, looked_across, looked_twin}
 use Rattle.share_search.proofs.Looking.{looked_whole}
@@ -55,12 +55,12 @@ returns-then-end-past c =
       mirrored_2 = c.requires.mirrored;
     }
 
-pub held-h-requires : goal.held-h-requires
-held-h-requires c =
+pub held-requires : goal.held-requires
+held-requires c =
     record { few = c.requires.few.0; candidate = c.requires.few.2; b_le_n = c.requires.few.1 }
 
-pub returns-then-b-h : goal.returns-then-b-h
-returns-then-b-h c =
+pub returns-in_default : goal.returns-in_default
+returns-in_default c =
     let w : c.args.set < 2 ^ 64 = omega arith in
     record {
       looked = (looked_across w c.requires.few.1 c.if-b-n.false, past_same _ _);
@@ -73,8 +73,7 @@ outdone-requires c = record {
     c.requires.few.0.high,
     c.requires.few.1,
     c.requires.few.2,
-    omega
-        (arith, c.if-b-h.false),
+    c.in-Some.ensures.0,
     c.requires.few.4,
   );
   formed = c.requires.formed;
@@ -89,15 +88,10 @@ shape_of-words c = c.outdone.ensures.replaceable.1.long
 pub returns : goal.returns
 returns c =
     let w : c.args.set < 2 ^ 64 = omega arith in
-    let q = c.outdone.ensures in
-    let h : c.held-h.result
-    ≤ c.args.b = omega (
-      arith,
-      c.if-b-h.false,
-    ) in record {
+    let q = c.outdone.ensures in record {
       looked = (
         looked_twin w c.requires.few.1
-            c.if-b-n.false h (c.held-h.ensures h) q.replaceable.0,
+            c.if-b-n.false c.in-Some.ensures.0 c.in-Some.ensures.1 q.replaceable.0,
         q.replaceable.1,
       );
       mirrored_2 = q.mirrored_2;

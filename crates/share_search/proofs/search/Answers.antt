@@ -1,10 +1,7 @@
-use mathlib.Core.Path.{refl, ap₂}
+use mathlib.Core.Path.{ap₂}
 use Prim.Native.Nat.{◌+◌, ◌^◌, ◌<◌}
 use native.Mathlib.Omega.{arith}
-use borrow.Author.Rules.{rules}
-use borrow.Author.Tests.{not-true, not-false}
 use Rattle.spans.proofs.ChangeLaws.{past_same, past_then}
-use Rattle.share_search.specs.Searching.{miss}
 use Rattle.share_search.proofs.Turns.{over, at_end}
 use Rattle.share_search.proofs.Looking.{turn_first, turn_next, turn_more, next_falls, hit_of}
 use Rattle.share_search.proofs.search.Goals as goal
@@ -27,7 +24,6 @@ loop-g-init c = let w : c.args.set < 2 ^ 64 = omega arith in (
       c.first-c.ensures,
   past_same _ _,
   c.open_sheet.ensures.mirrored,
-  refl,
 )
 
 pub block_of-k-requires : goal.block_of-k-requires
@@ -38,19 +34,15 @@ block_of-k-requires c = let l = c.loop-g in
       b_le_n = l.invariant.0.known;
     }
 
-pub shape_of-words-then-end-k : goal.shape_of-words-then-end-k
-shape_of-words-then-end-k c = (past_then c.open_sheet.ensures.past c.loop-g.invariant.1).long
-
 pub returns-then-end-k : goal.returns-then-end-k
 returns-then-end-k c =
     let w : c.args.set < 2 ^ 64 = omega arith in
-    let l = c.loop-g in
-    let k = c.block_of-k in
-    let n = c.nothing.ensures in record {
-      searched = miss n.0 n.1 (at_end w c.args.end l.invariant.0.known l.invariant.0.before
-          (omega (arith, c.if-end-k.true, k.ensures.0)));
-      past = past_then
-          c.open_sheet.ensures.past l.invariant.1;
+    let l = c.loop-g in record {
+      searched = record {
+        absent = at_end w c.args.end l.invariant.0.known l.invariant.0.before
+            (omega (arith, c.if-end-k.true, c.block_of-k.ensures.0));
+      };
+      past = past_then c.open_sheet.ensures.past l.invariant.1;
     }
 
 pub overflow_add-past : goal.overflow_add-past
@@ -78,8 +70,8 @@ look-requires c =
       mirrored = l.invariant.2;
     }
 
-pub successor-s-requires : goal.successor-s-requires
-successor-s-requires c = let l = c.loop-g in record {
+pub successor-requires : goal.successor-requires
+successor-requires c = let l = c.loop-g in record {
   le_n = (
     c.requires.few.0.low,
     c.requires.few.0.high,
@@ -89,51 +81,37 @@ successor-s-requires c = let l = c.loop-g in record {
   candidate = l.invariant.0.before.candidate;
 }
 
-pub shape_of-words-then-not-s : goal.shape_of-words-then-not-s
-shape_of-words-then-not-s c = (past_then (past_then
-    c.open_sheet.ensures.past c.loop-g.invariant.1) c.look.ensures.looked.1).long
-
-pub returns-then-not-s : goal.returns-then-not-s
-returns-then-not-s c =
+pub returns-in_err-s : goal.returns-in_err-s
+returns-in_err-s c =
     let w : c.args.set < 2 ^ 64 = omega arith in
     let v = c.look.ensures.looked in
-    let l = c.loop-g in
-    let n = c.nothing-then-not-s.ensures in record {
-      searched = miss n.0 n.1 (over w c.args.end l.invariant.0.before
-          (v.0.barren c.if-look.true)
-          (c.successor-s.ensures.absent (not-true _ c.if-not-s.true)));
-      past = (past_then (past_then c.open_sheet.ensures.past
-          c.loop-g.invariant.1) c.look.ensures.looked.1);
+    let l = c.loop-g in record {
+      searched = rw c.from_residual.ensures (record {
+        absent = over w c.args.end l.invariant.0.before (v.0.barren c.if-look.true)
+            c.in_err-s.ensures;
+      });
+      past = past_then (past_then c.open_sheet.ensures.past l.invariant.1) v.1;
     }
 
 pub loop-g-smaller-then-look : goal.loop-g-smaller-then-look
 loop-g-smaller-then-look c =
-    let f = c.successor-s.ensures.next (not-false _ c.if-not-s.false) in
     omega (
       arith,
       c.requires.few.0.high,
       next_falls c.requires.few.0.high
-          c.loop-g.invariant.0 f,
+          c.loop-g.invariant.0 c.in_ok-s.ensures,
     )
 
 pub loop-g-preserved-then-look : goal.loop-g-preserved-then-look
 loop-g-preserved-then-look c =
     let w : c.args.set < 2 ^ 64 = omega arith in
     let v = c.look.ensures in
-    let l = c.loop-g in
-    let f = c.successor-s.ensures.next (not-false _ c.if-not-s.false) in (
+    let l = c.loop-g in (
       turn_next w l.invariant.0 v.looked.0
-          c.if-look.true f,
+          c.if-look.true c.in_ok-s.ensures,
       past_then l.invariant.1 v.looked.1,
       v.mirrored_2,
-      search rules,
     )
-
-pub shape_of-words-then-b-n : goal.shape_of-words-then-b-n
-shape_of-words-then-b-n c = (past_then (past_then
-    c.open_sheet.ensures.past
-    c.loop-g.invariant.1)
-    c.look.ensures.looked.1).long
 
 pub returns-then-b-n : goal.returns-then-b-n
 returns-then-b-n c =
@@ -172,5 +150,4 @@ loop-g-preserved c = let l = c.loop-g in (
   past_then l.invariant.1
       c.look.ensures.looked.1,
   c.look.ensures.mirrored_2,
-  search rules,
 )

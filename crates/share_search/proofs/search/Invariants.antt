@@ -1,7 +1,5 @@
 -- The loop's invariant: the first that meets it is not before the candidate. The measure is the
 -- candidates with the cells that are left.
-use mathlib.Core.Path.{◌≡◌}
-use lib.ListN.{length}
 use Prim.Native.Nat.{◌+◌, ◌-◌, ◌*◌}
 use Rattle.grammar.specs.SpanSheet.{pairs}
 use Rattle.spans.specs.Changes.{Past}
@@ -16,7 +14,6 @@ abbrev pub invariant-loop-g : goal.invariant-loop-g
 invariant-loop-g l = ShareTurn (rules_of l.g)
     l.set l.n l.start l.b (cells l.c 0 l.n) × Past (2 * pairs l.n) l.initial.words l.words
     × Mirrored (rules_of l.g) l.n l.words l.cuts
-    × (length l.cuts ≡ length l.initial.cuts)
 
 abbrev pub decreases-loop-g : goal.decreases-loop-g
 decreases-loop-g l =

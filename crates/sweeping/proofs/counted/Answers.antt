@@ -10,8 +10,6 @@ use native.Mathlib.Omega.{arith}
 use Rattle.grammar.specs.Content.{rules_of}
 use Rattle.candidates.proofs.Counting.{counted}
 use Rattle.candidates.proofs.TerminalSets.{among_terminal}
-use Rattle.candidates.proofs.Windows.{cells_size}
-use Rattle.candidates.specs.Arrays.{cells}
 use Rattle.tried_count.proofs.Trying.{tried_over}
 use Rattle.sweeping.proofs.Answers.{hit_of, fair_of}
 use Rattle.tried_count.specs.Searched.{answer_of}
@@ -27,14 +25,13 @@ tried-requires c =
     let t = counted c.terminals-all.result (omega (arith, c.terminals-all.type_inv)) in record {
       fair = fair_of c.terminals-all.result c.requires.bounded
           (t.terminals (rules_of c.args.g) c.terminals-all.ensures) t.few;
-      hit = hit_of c.args.k c.args.n _
+      hit = hit_of c.args.k c.args.found
           (among_terminal c.args.g c.terminals-all.result c.requires.formed c.terminals-all.ensures)
-          c.requires.lengths_of c.requires.bounded.high (cells_size c.args.c 0 c.args.n)
-          c.requires.found;
+          c.requires.lengths_of c.requires.bounded.high c.requires.found;
     }
 
 pub returns : goal.returns
 returns c =
     tried_over (λ n h. within c.requires.lengths_of c.requires.bounded n h)
     (among_terminal c.args.g c.terminals-all.result c.requires.formed c.terminals-all.ensures)
-    (answer_of c.args.n (cells c.args.c 0 c.args.n)) c.tried.ensures
+    (answer_of c.args.found) c.tried.ensures

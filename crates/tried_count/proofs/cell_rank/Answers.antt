@@ -1,8 +1,8 @@
 -- `tried_count::cell_rank` meets its contract.
 use Prim.Native.Nat.{◌+◌, ◌*◌, ◌≤◌}
-use mathlib.Core.Path.{ap₂}
+use mathlib.Core.Path.{ap₂, ◌∙◌}
 use native.Mathlib.Omega.{arith}
-use Rattle.tried_count.proofs.Members.{members_le}
+use Rattle.tried_count.proofs.Members.{members_le, ones_below}
 use Rattle.tried_count.proofs.Columns.{ways_small, lesser_small, share_small}
 use Rattle.tried_count.proofs.cell_rank.Goals.{After-lesser_at-l}
 use Rattle.tried_count.proofs.cell_rank.Goals as goal
@@ -16,6 +16,7 @@ share c =
     (omega (
       arith,
       c.members_below-b.ensures,
+      ones_below c.args.set c.args.d.terminal,
       members_le c.args.set c.args.d.terminal,
       c.requires.terminal_bound.0,
     ))
@@ -41,5 +42,5 @@ overflow_add-result c =
     )
 
 pub returns : goal.returns
-returns c = ap₂ ◌+◌ (ap₂ ◌*◌ c.members_below-b.ensures
+returns c = ap₂ ◌+◌ (ap₂ ◌*◌ (c.members_below-b.ensures ∙ ones_below _ _)
     c.ways_at-w.ensures) c.lesser_at-l.ensures

@@ -7,8 +7,8 @@ use Rattle.tried_count.proofs.sum_between.Goals as goal
 pub loop-k-init : goal.loop-k-init
 loop-k-init c = summing_none _ _ _
 
-pub overflow_add-s : goal.overflow_add-s
-overflow_add-s c =
+pub overflow_add-s-in-loop-k : goal.overflow_add-s-in-loop-k
+overflow_add-s-in-loop-k c =
     omega (
       arith,
       c.requires.1.each (c.loop-k.k + 1),

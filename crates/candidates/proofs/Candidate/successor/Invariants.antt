@@ -6,6 +6,3 @@ use Rattle.candidates.proofs.Candidate.successor.Given as goal
 
 abbrev pub invariant-loop-i : goal.invariant-loop-i
 invariant-loop-i l = (l.i ≤ l.b) × LastFrom l.set l.n l.self l.b l.i
-
-abbrev pub decreases-loop-i : goal.decreases-loop-i
-decreases-loop-i l = l.i

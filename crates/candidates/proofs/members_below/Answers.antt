@@ -1,7 +1,7 @@
 -- The language's count of ones, of the members below x.
 use native.Mathlib.Omega.{arith}
-use Rattle.arrangement_numbers.proofs.Working.{shl_pos, place_small, place_is}
-use Rattle.arrangement_numbers.proofs.place.Goals as goal
+use Rattle.candidates.proofs.Members.{shl_pos, below_small, below_is}
+use Rattle.candidates.proofs.members_below.Goals as goal
 
 pub nonzero_rem-result : goal.nonzero_rem-result
 nonzero_rem-result c = shl_pos c.args.x c.requires
@@ -9,11 +9,11 @@ nonzero_rem-result c = shl_pos c.args.x c.requires
 pub overflow_cast-result-2 : goal.overflow_cast-result-2
 overflow_cast-result-2 c = omega (
   arith,
-  place_is c.args.set c.args.x c.requires,
-  place_small
+  below_is c.args.set c.args.x c.requires,
+  below_small
       c.args.set c.args.x,
   c.requires,
 )
 
 pub returns : goal.returns
-returns c = place_is c.args.set c.args.x c.requires
+returns c = below_is c.args.set c.args.x c.requires
