@@ -15,7 +15,7 @@ ghost use Rattle.doubt_list.specs.Steps.{at, four, Lists, PutIf};
 
 use acyclic::ready;
 use grammar::Grammar;
-use lists::{Listed, Listing, begin, finish, put};
+use lists::{Listing, begin, finish, put};
 use sets::has;
 
 // The nullable nonterminals, and those that stand in trees of 0.
@@ -23,6 +23,15 @@ use sets::has;
 pub struct Sets {
     pub nulls: u64,
     pub occurring: u64,
+}
+
+// Why there is doubt, as a byte of an entry: two rules may have a word with tokens, a rule may part
+// one at two cuts, two rules have the empty word.
+#[derive(Clone, Copy)]
+enum Why {
+    Rules,
+    Cuts,
+    Empty,
 }
 
 // Is the bit of two rules set?
@@ -102,9 +111,9 @@ fn list_pair(
         (at a p (q + 1) 0) }
 {
     let two = marked(marks, p, q);
-    let k = put_if(two, a, p, q, 0, list, l);
+    let k = put_if(two, a, p, q, Why::Rules as u8, list, l);
     let empty = both_empty(g, s, a, p, q);
-    put_if(empty, a, p, q, 2, list, k)
+    put_if(empty, a, p, q, Why::Empty as u8, list, k)
 }
 
 // The entry of a rule that may part a word at two places.
@@ -124,7 +133,7 @@ fn list_same(
         (at a p (p + 1) 0) }
 {
     let two = marked(marks, p, p);
-    put_if(two, a, p, p, 1, list, l)
+    put_if(two, a, p, p, Why::Cuts as u8, list, l)
 }
 
 // The entries of a rule and each rule behind it.
@@ -145,10 +154,8 @@ fn list_behind(
 {
     let count = g.count;
     let mut k = l;
-    let mut q = p + 1;
-    while q < count {
+    for q in p + 1..count {
         k = list_pair(g, s, marks, a, p, q, list, k);
-        q += 1;
     }
     k
 }
@@ -183,14 +190,11 @@ fn list_left(g: Grammar, s: Sets, marks: &[u64], a: u8, list: &mut [u8], l: List
 {
     let count = g.count;
     let mut k = l;
-    let mut p: usize = 0;
-    while p < count {
+    for p in 0..count {
         if !of_left(g, a, p) {
-            p += 1;
             continue;
         }
         k = list_rule(g, s, marks, a, p, list, k);
-        p += 1;
     }
     k
 }
@@ -203,16 +207,14 @@ fn list_all(g: Grammar, s: Sets, marks: &[u64], list: &mut [u8], l: Listing) -> 
         (at 64 0 0 0) }
 {
     let mut k = l;
-    let mut a: u8 = 0;
-    while a < 64 {
+    for a in 0u8..64 {
         k = list_left(g, s, marks, a, list, k);
-        a += 1;
     }
     k
 }
 
 // The list of the doubts in the lent bytes, with 0 after it; all 0 where it does not fit.
-pub fn list_doubts(g: Grammar, s: Sets, marks: &[u64], list: &mut [u8]) -> Listed
+pub fn list_doubts(g: Grammar, s: Sets, marks: &[u64], list: &mut [u8]) -> Option<usize>
     requires { Ground g s marks.now }
     ensures { DoubtsGiven (rules_of g) list.old list.new result }
 {

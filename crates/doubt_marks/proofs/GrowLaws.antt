@@ -2,16 +2,19 @@
 use mathlib.Core.Path.{◌≡◌, refl, sym, ap, ◌∙◌, subst}
 use mathlib.Core.Logic.{◌⊎◌, inl, inr, ⊎_elim}
 use mathlib.Core.List.{List}
-use Prim.Native.Nat.{ℕ, ◌+◌, ◌*◌, ◌/◌, ◌%◌, ◌<◌}
+use Prim.Native.Nat.{ℕ, ◌+◌, ◌*◌, ◌/◌, ◌%◌, ◌≤◌, ◌<◌}
 use native.Mathlib.Omega.{arith}
 use native.Mathlib.Decide.{ℕ_discrete}
-use lib.ListN.{length, get_or, set, length-set}
-use lib.Seq.{get_or-set_same, get_or-set_other}
+use lib.ListN.{length, get_or, take, set, length-set}
+use lib.Seq.{get_or-take, get_or-set_same, get_or-set_other}
+use Rattle.std.proofs.lemmas.List.{length-take-le}
 use Rattle.sets.specs.Sets.{In}
 use Rattle.sets.specs.Insertion.{insert}
 use Rattle.sets.proofs.Sets.{insert_same, insert_keeps, insert_only}
 use Rattle.pair_offsets.specs.declared.Frame.{Frame}
 use Rattle.pair_offsets.specs.Frames.{rank_of}
+use Rattle.pair_offsets.specs.Evens.{EvenSix}
+use Rattle.pair_offsets.specs.Lists.{ListsEvens}
 use Rattle.pair_steps.specs.Ranks.{Ranked}
 use Rattle.doubt_list.specs.Marks.{Bit}
 use Rattle.doubt_marks.specs.Standing.{span_frame}
@@ -136,3 +139,20 @@ module _ {X : Frame → ℕ → ℕ → Type 0} {f : Frame} {k : ℕ} (e : f ≡
         ranked = subst (λ (h : Frame). Ranked (rank_of h)) e r;
         holds = subst (λ (h : Frame). X h p q) e d;
       }) (λ p q d. subst (λ (h : Frame). X h p q) (sym e) d.holds)
+
+-- the listed sixes alone
+pub evens_taken : {f : Frame} {l : List ℕ} {e : ℕ} → e ≤ length l → ListsEvens f l 0 e
+    → ListsEvens f (take e l) 0 (length (take e l))
+evens_taken {f} {l} {e} h x =
+    record {
+      low = omega arith;
+      all = λ s k v.
+          let i = x.all s k v in
+          (i.0, i.1, omega (arith, i.2, n), get_or-take e l i.0 0 i.2 ∙ i.3);
+      only = λ i p q.
+          let k : i < e = omega (arith, q, n) in
+          subst (EvenSix f) (sym (get_or-take e l i 0 k)) (x.only i p k);
+    }
+  where
+    n : length (take e l) ≡ e
+    n = length-take-le e l h

@@ -2,7 +2,7 @@
 // over one span, by the nodes and the table of the search.
 #![tactic(auto)]
 
-ghost use Rattle.std.specs.Prelude.{◌≡◌, ◌+◌, ◌*◌, ◌≤◌, ◌<◌, length};
+ghost use Rattle.std.specs.Prelude.{List, ℕ, ◌≡◌, ◌+◌, ◌*◌, ◌≤◌, ◌<◌, length};
 ghost use Rattle.sets.specs.Says.{Says};
 ghost use Rattle.grammar.specs.Cycles.{Nullable};
 ghost use Rattle.grammar.specs.Content.{rules_of, Formed};
@@ -11,20 +11,55 @@ ghost use Rattle.acyclic.specs.Passes.{Extended};
 ghost use Rattle.pairs.specs.Survey.{Productive};
 ghost use Rattle.spans.specs.Changes.{Past};
 ghost use Rattle.doubt_list.specs.Marks.{Ground};
+ghost use Rattle.pair_offsets.specs.declared.Frame.{Frame};
 ghost use Rattle.pair_offsets.specs.Lists.{ListsEvens};
 ghost use Rattle.pair_tables.specs.Reading.{Room, Small};
 ghost use Rattle.doubt_marks.specs.Standing.{span_frame, StandsBy, MayOver};
 ghost use Rattle.doubt_marks.specs.Growing.{Grows, Upto, OneBit};
-ghost use Rattle.doubt_marks.specs.Marking.{SelfOver, SelfBy, Self, AddsSeen, SeenBy};
-ghost use Rattle.doubt_marks.specs.Marking.{SeenPass, PairOver, RowOver, PairsBy, PairsFound};
+ghost use Rattle.doubt_marks.specs.Marking.{ByFrame, SelfOver, AddsSeen, SeenBy};
+ghost use Rattle.doubt_marks.specs.Marking.{SeenPass, PairOver, RowOver};
 ghost use Rattle.doubt_marks.specs.Marking.{MarksFor, MarksFilled};
 
 use acyclic::nullables;
 use doubt_list::Sets;
 use grammar::Grammar;
+use pair_entries::WORDS;
+use pair_nodes::NODE_WORDS;
 use pair_offsets::{Frame, ONE_START};
-use pair_steps::Node;
+use pair_steps::{Node, SHAPES};
 use survey::{occurring, productives};
+
+// The nodes of a sheet's shapes, and the table of the search.
+#[derive(Clone, Copy)]
+struct Tables<'a> {
+    nodes: &'a [u64],
+    table: &'a [u64],
+    ghost long: { 1536 ≤ length nodes.now },
+    ghost room: { 65536 ≤ length table.now },
+}
+
+// What is looked for over one span: which bits a shape sets besides over a frame, in so many words
+// at least.
+trait Search {
+    ghost bits: { Self → List ℕ → List ℕ → Frame → ℕ → ℕ → ℕ → Type 0 };
+
+    ghost words: { ℕ };
+
+    fn shape(self, t: Tables, f: Frame, list: &[u64], i: usize, out: &mut [u64])
+        requires evens { ListsEvens f list.now 0 (length list.now) }
+        requires in_bounds { (i < 384) × (words ≤ length out.old) }
+        ensures { Grows (bits self t.entry.nodes.now t.entry.table.now f i) out.old out.new };
+}
+
+// The shapes that may stand with themselves: each sets a bit of its own row.
+#[derive(Clone, Copy)]
+struct Selves;
+
+// The pairs of shapes of nonterminals that are seen: each sets the bit of its rules.
+#[derive(Clone, Copy)]
+struct Pairs {
+    seen: u64,
+}
 
 // The frame of two nodes over one span, by number.
 fn span_frame(k: usize) -> Frame
@@ -41,23 +76,14 @@ fn span_frame(k: usize) -> Frame
     }
 }
 
-// Does a step find two nodes over a frame? The sixes of offsets over it are listed.
-fn stands(
-    table: &[u64],
-    f: Frame,
-    x: Node,
-    y: Node,
-    i: usize,
-    j: usize,
-    list: &[u64],
-    end: usize,
-) -> bool
+// Does a step find two nodes over a frame?
+fn stands(table: &[u64], f: Frame, x: Node, y: Node, i: usize, j: usize, list: &[u64]) -> bool
     requires room { Room table.now × Small x × Small y × (i < 384) × (j < 384) }
-    requires end_in_bounds { (end ≤ length list.now) × ListsEvens f list.now 0 end }
+    requires evens { ListsEvens f list.now 0 (length list.now) }
     ensures { Says result (StandsBy table.now f x y i j) }
 {
     let w = pair_tables::words_of(table, x, y, i, j);
-    if pair_steps::offsets_found(f, x, y, w, list, 0, end) == 0 {
+    if pair_steps::offsets_found(f, x, y, w, list, 0, list.len()) == 0 {
         return false;
     }
     let n = pair_tables::nexts_of(table, f, x, y);
@@ -68,26 +94,26 @@ fn stands(
 }
 
 // May the nodes of two shapes stand over it?
-fn may(nodes: &[u64], table: &[u64], f: Frame, i: usize, j: usize, list: &[u64], end: usize) -> bool
-    requires in_bounds { (1536 ≤ length nodes.now) × Room table.now × (i < 384) × (j < 384) }
-    requires end_in_bounds { (end ≤ length list.now) × ListsEvens f list.now 0 end }
-    ensures { Says result (MayOver nodes.now table.now f i j) }
+fn may(t: Tables, f: Frame, list: &[u64], i: usize, j: usize) -> bool
+    requires evens { ListsEvens f list.now 0 (length list.now) }
+    requires in_bounds { (i < 384) × (j < 384) }
+    ensures { Says result (MayOver t.entry.nodes.now t.entry.table.now f i j) }
 {
-    if !pair_nodes::present(nodes, i) {
+    if !pair_nodes::present(t.nodes, i) {
         return false;
     }
-    if !pair_nodes::present(nodes, j) {
+    if !pair_nodes::present(t.nodes, j) {
         return false;
     }
-    let x = pair_nodes::node_at(nodes, i);
-    let y = pair_nodes::node_at(nodes, j);
+    let x = pair_nodes::node_at(t.nodes, i);
+    let y = pair_nodes::node_at(t.nodes, j);
     if x.sort != y.sort {
         return false;
     }
     if !pair_frames::suits(f, x.kids, y.kids) {
         return false;
     }
-    stands(table, f, x, y, i, j, list, end)
+    stands(t.table, f, x, y, i, j, list)
 }
 
 // Sets bit q of the two words of row p.
@@ -100,48 +126,76 @@ fn set_bit(t: &mut [u64], p: usize, q: usize)
     t[at] = sets::with(word, (q % 64) as u8);
 }
 
-// Sets the bit of a shape that may stand over the frame with itself.
-fn self_at(
-    nodes: &[u64],
-    table: &[u64],
-    f: Frame,
-    i: usize,
-    list: &[u64],
-    end: usize,
-    out: &mut [u64],
-)
-    requires in_bounds { (1536 ≤ length nodes.now) × Room table.now × (i < 384) }
-    requires end_in_bounds { (end ≤ length list.now) × ListsEvens f list.now 0 end }
-    requires in_bounds_2 { 768 ≤ length out.old }
-    ensures { Grows (SelfOver nodes.now table.now f i)
-        out.old out.new }
-{
-    if may(nodes, table, f, i, i, list, end) {
-        set_bit(out, i, 0);
+impl Search for Selves {
+    ghost bits = { λ s ns t f. SelfOver ns t f };
+
+    ghost words = { 768 };
+
+    fn shape(self, t: Tables, f: Frame, list: &[u64], i: usize, out: &mut [u64]) {
+        if may(t, f, list, i, i) {
+            set_bit(out, i, 0);
+        }
     }
 }
 
-// The bits of all shapes that do.
-fn selves_over(nodes: &[u64], table: &[u64], f: Frame, list: &[u64], end: usize, out: &mut [u64])
-    requires in_bounds { (1536 ≤ length nodes.now) × Room table.now }
-    requires end_in_bounds { (end ≤ length list.now) × ListsEvens f list.now 0 end }
-    requires in_bounds_2 { 768 ≤ length out.old }
-    ensures { Grows (Upto 384 (SelfOver nodes.now table.now f))
-        out.old out.new }
+// Sets the bit of the rules of two shapes, if they differ in shape or cut and may stand over the
+// frame.
+#[tactic(auto, using(crate::proofs::GrowLaws::pair_still))]
+fn mark_pair(t: Tables, f: Frame, list: &[u64], i: usize, j: usize, marks: &mut [u64])
+    requires evens { ListsEvens f list.now 0 (length list.now) }
+    requires in_bounds { (i < 384) × (j < 384) × (256 ≤ length marks.old) }
+    ensures { Grows (PairOver t.entry.nodes.now t.entry.table.now f i j) marks.old marks.new }
 {
-    let mut i: usize = 0;
-    while i < 384 {
-        self_at(nodes, table, f, i, list, end, out);
-        i += 1;
+    let p = i % 128;
+    let q = j % 128;
+    if q < p {
+        return;
+    }
+    if i == j {
+        if f.cut == f.split {
+            return;
+        }
+    }
+    if may(t, f, list, i, j) {
+        set_bit(marks, p, q);
+    }
+}
+
+impl Search for Pairs {
+    ghost bits = { λ s ns t f. RowOver ns t s.seen f };
+
+    ghost words = { 256 };
+
+    fn shape(self, t: Tables, f: Frame, list: &[u64], i: usize, out: &mut [u64]) {
+        if !pair_nodes::present(t.nodes, i) {
+            return;
+        }
+        let x = pair_nodes::node_at(t.nodes, i);
+        if !sets::has(self.seen, x.sort) {
+            return;
+        }
+        for j in 0..SHAPES {
+            mark_pair(t, f, list, i, j, out);
+        }
+    }
+}
+
+// The bits of all shapes over a frame.
+fn over_frame<S: Search + Copy>(s: S, t: Tables, f: Frame, list: &[u64], out: &mut [u64])
+    requires evens { ListsEvens f list.now 0 (length list.now) }
+    requires in_bounds { S.words ≤ length out.old }
+    ensures { Grows (Upto 384 (S.bits s t.entry.nodes.now t.entry.table.now f)) out.old out.new }
+{
+    for i in 0..SHAPES {
+        s.shape(t, f, list, i, out);
     }
 }
 
 // The same over the frame with this number, if its points are numbered by rank.
-fn selves_by(nodes: &[u64], table: &[u64], k: usize, out: &mut [u64])
-    requires in_bounds { (1536 ≤ length nodes.now) × Room table.now × (k < 16) }
-    requires in_bounds_2 { 768 ≤ length out.old }
-    ensures { Grows (SelfBy nodes.now table.now k) out.old
-        out.new }
+fn by_number<S: Search + Copy>(s: S, t: Tables, k: usize, out: &mut [u64])
+    requires { (k < 16) × (S.words ≤ length out.old) }
+    ensures { Grows (ByFrame (λ f. Upto 384 (S.bits s t.entry.nodes.now t.entry.table.now f)) k)
+        out.old out.new }
 {
     let f = span_frame(k);
     if !pair_frames::ranked(f) {
@@ -149,20 +203,18 @@ fn selves_by(nodes: &[u64], table: &[u64], k: usize, out: &mut [u64])
     }
     let mut list = [0u64; ONE_START];
     let end = pair_offsets::list_from_one(f, &mut list, 0);
-    selves_over(nodes, table, f, &list, end, out);
+    over_frame(s, t, f, &list[..end], out);
 }
 
 // The same over all frames of one span.
-fn selves(nodes: &[u64], table: &[u64], out: &mut [u64])
-    requires in_bounds { (1536 ≤ length nodes.now) × Room table.now }
-    requires in_bounds_2 { 768 ≤ length out.old }
-    ensures { Grows (Self nodes.now table.now) out.old
-        out.new }
+fn over_span<S: Search + Copy>(s: S, t: Tables, out: &mut [u64])
+    requires { S.words ≤ length out.old }
+    ensures { Grows
+        (Upto 16 (ByFrame (λ f. Upto 384 (S.bits s t.entry.nodes.now t.entry.table.now f))))
+        out.old out.new }
 {
-    let mut k: usize = 0;
-    while k < 16 {
-        selves_by(nodes, table, k, out);
-        k += 1;
+    for k in 0..16 {
+        by_number(s, t, k, out);
     }
 }
 
@@ -198,10 +250,8 @@ fn seen_pass(nodes: &[u64], own: &[u64], seen: u64) -> u64
     ensures { SeenPass nodes.now own.now 384 seen result }
 {
     let mut next = seen;
-    let mut i: usize = 0;
-    while i < 384 {
+    for i in 0..SHAPES {
         next = with_children(nodes, own, i, next);
-        i += 1;
     }
     next
 }
@@ -221,136 +271,16 @@ fn seen_by(nodes: &[u64], own: &[u64]) -> u64
     }
 }
 
-// Sets the bit of the rules of two shapes, if they differ in shape or cut and may stand over the
-// frame.
-#[tactic(auto, using(crate::proofs::GrowLaws::pair_still))]
-fn mark_pair(
-    nodes: &[u64],
-    table: &[u64],
-    f: Frame,
-    i: usize,
-    j: usize,
-    list: &[u64],
-    end: usize,
-    marks: &mut [u64],
-)
-    requires in_bounds { (1536 ≤ length nodes.now) × Room table.now × (i < 384) × (j < 384) }
-    requires end_in_bounds { (end ≤ length list.now) × ListsEvens f list.now 0 end }
-    requires in_bounds_2 { 256 ≤ length marks.old }
-    ensures { Grows (PairOver nodes.now table.now f i j)
-        marks.old marks.new }
-{
-    let p = i % 128;
-    let q = j % 128;
-    if q < p {
-        return;
-    }
-    if i == j {
-        if f.cut == f.split {
-            return;
-        }
-    }
-    if may(nodes, table, f, i, j, list, end) {
-        set_bit(marks, p, q);
-    }
-}
-
-// The bits of a shape with each, if its nonterminal is seen.
-fn mark_row(
-    nodes: &[u64],
-    table: &[u64],
-    seen: u64,
-    f: Frame,
-    i: usize,
-    list: &[u64],
-    end: usize,
-    marks: &mut [u64],
-)
-    requires in_bounds { (1536 ≤ length nodes.now) × Room table.now × (i < 384) }
-    requires end_in_bounds { (end ≤ length list.now) × ListsEvens f list.now 0 end }
-    requires in_bounds_2 { 256 ≤ length marks.old }
-    ensures { Grows (RowOver nodes.now table.now seen f i)
-        marks.old marks.new }
-{
-    if !pair_nodes::present(nodes, i) {
-        return;
-    }
-    let x = pair_nodes::node_at(nodes, i);
-    if !sets::has(seen, x.sort) {
-        return;
-    }
-    let mut j: usize = 0;
-    while j < 384 {
-        mark_pair(nodes, table, f, i, j, list, end, marks);
-        j += 1;
-    }
-}
-
-// The bits of all.
-fn mark_over(
-    nodes: &[u64],
-    table: &[u64],
-    seen: u64,
-    f: Frame,
-    list: &[u64],
-    end: usize,
-    marks: &mut [u64],
-)
-    requires in_bounds { (1536 ≤ length nodes.now) × Room table.now }
-    requires end_in_bounds { (end ≤ length list.now) × ListsEvens f list.now 0 end }
-    requires in_bounds_2 { 256 ≤ length marks.old }
-    ensures { Grows (Upto 384 (RowOver nodes.now table.now seen f))
-        marks.old marks.new }
-{
-    let mut i: usize = 0;
-    while i < 384 {
-        mark_row(nodes, table, seen, f, i, list, end, marks);
-        i += 1;
-    }
-}
-
-// The same over the frame with this number, if its points are numbered by rank.
-fn mark_by(nodes: &[u64], table: &[u64], seen: u64, k: usize, marks: &mut [u64])
-    requires in_bounds { (1536 ≤ length nodes.now) × Room table.now × (k < 16) }
-    requires in_bounds_2 { 256 ≤ length marks.old }
-    ensures { Grows (PairsBy nodes.now table.now seen k)
-        marks.old marks.new }
-{
-    let f = span_frame(k);
-    if !pair_frames::ranked(f) {
-        return;
-    }
-    let mut list = [0u64; ONE_START];
-    let end = pair_offsets::list_from_one(f, &mut list, 0);
-    mark_over(nodes, table, seen, f, &list, end, marks);
-}
-
-// The same over all frames of one span.
-fn mark_frames(nodes: &[u64], table: &[u64], seen: u64, marks: &mut [u64])
-    requires in_bounds { (1536 ≤ length nodes.now) × Room table.now }
-    requires in_bounds_2 { 256 ≤ length marks.old }
-    ensures { Grows (PairsFound nodes.now table.now seen)
-        marks.old marks.new }
-{
-    let mut k: usize = 0;
-    while k < 16 {
-        mark_by(nodes, table, seen, k, marks);
-        k += 1;
-    }
-}
-
 // The marks of the sheet whose nodes and table these are.
-fn mark_doubts(nodes: &[u64], table: &[u64], marks: &mut [u64])
-    requires in_bounds { (1536 ≤ length nodes.now) × Room table.now }
-    requires in_bounds_2 { 256 ≤ length marks.old }
-    ensures { MarksFor nodes.now table.now marks.old
-        marks.new }
+fn mark_doubts(t: Tables, marks: &mut [u64])
+    requires { 256 ≤ length marks.old }
+    ensures { MarksFor t.entry.nodes.now t.entry.table.now marks.old marks.new }
 {
-    let mut own = [0u64; 768];
-    selves(nodes, table, &mut own);
-    let seen = seen_by(nodes, &own);
+    let mut own = [0u64; 2 * SHAPES];
+    over_span(Selves, t, &mut own);
+    let seen = seen_by(t.nodes, &own);
     spans::clear(marks, 256);
-    mark_frames(nodes, table, seen, marks);
+    over_span(Pairs { seen }, t, marks);
 }
 
 // The marks of a sheet; the search needs the first 73728 of the words.
@@ -361,10 +291,14 @@ pub fn fill_marks(g: Grammar, nulls: u64, prods: u64, words: &mut [u64], marks: 
     ensures { MarksFilled (rules_of g) words.old words.new
         marks.old marks.new }
 {
-    let mut nodes = [0u64; 1536];
+    let mut nodes = [0u64; NODE_WORDS];
     pair_nodes::fill_nodes(g, nulls, prods, &mut nodes);
     pair_search::fill_table(&nodes, words);
-    mark_doubts(&nodes, words, marks);
+    let t = Tables {
+        nodes: &nodes,
+        table: words,
+    };
+    mark_doubts(t, marks);
 }
 
 // The sets and the marks by which the doubts of rules are listed, by tables in the lent words.
@@ -388,6 +322,6 @@ pub fn weigh_alone(g: Grammar, marks: &mut [u64]) -> Sets
     requires { Formed g × (256 ≤ length marks.old) }
     ensures { Ground g result marks.new }
 {
-    let mut words = [0u64; 73728];
+    let mut words = [0u64; WORDS];
     weigh(g, &mut words, marks)
 }

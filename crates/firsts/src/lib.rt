@@ -19,10 +19,8 @@ fn fill_columns(g: Grammar, nulls: u64, prods: u64, out: &mut [u64])
     requires in_bounds { 64 ≤ length out.old }
     ensures { ByTerminal (rules_of g) 64 out.new }
 {
-    let mut x: u8 = 0;
-    while x < 64 {
+    for x in 0u8..64 {
         out[x as usize] = beginning(g, nulls, prods, x);
-        x += 1;
     }
 }
 
@@ -32,15 +30,10 @@ fn row(columns: &[u64], a: u8) -> u64
     ensures { RowOf columns.now a 64 result }
 {
     let mut set: u64 = 0;
-    let mut x: u8 = 0;
-    while x < 64 {
-        let column = columns[x as usize];
-        if !has(column, a) {
-            x += 1;
-            continue;
+    for x in 0u8..64 {
+        if has(columns[x as usize], a) {
+            set = with(set, x);
         }
-        set = with(set, x);
-        x += 1;
     }
     set
 }
@@ -50,10 +43,8 @@ fn fill_rows(columns: &[u64], out: &mut [u64])
     requires { (64 ≤ length columns.now) × (64 ≤ length out.old) }
     ensures { TakesRows columns.now 64 out.new }
 {
-    let mut a: u8 = 0;
-    while a < 64 {
+    for a in 0u8..64 {
         out[a as usize] = row(columns, a);
-        a += 1;
     }
 }
 

@@ -10,6 +10,23 @@ ghost use Rattle.pair_entries.specs.Entering.{KindAdded, KindsIf, NoneUseful, En
 ghost use Rattle.pair_entries.specs.Entering.{Entered, StartsAdded, Prepared};
 
 use pair_offsets::Frame;
+use pair_steps::ENTRIES;
+
+// The words that the search needs: behind the table those of 256 entries, four each, and from LISTS
+// on the lists of sixes, each of at most 4096.
+pub const WORDS: usize = 73728;
+
+const LISTS: usize = ENTRIES + 4 * 256;
+
+const LAST_LIST: usize = WORDS - 4096;
+
+// How many four starts there are, and as many frames with each; and the most entries after which
+// there is room for so many more.
+const STARTS: usize = 1296;
+
+const STOPS: usize = 36;
+
+const FEW: usize = 256 - STOPS;
 
 // How far the frames are entered: the number of the next four starts, how many entries there are,
 // and the first free place for a list.
@@ -36,10 +53,8 @@ fn kinds_of(f: Frame) -> u64
     ensures { KindsOf f result }
 {
     let mut set: u64 = 0;
-    let mut k: u8 = 0;
-    while k < 16 {
+    for k in 0u8..16 {
         set = with_kind(f, k, set);
-        k += 1;
     }
     set
 }
@@ -60,19 +75,17 @@ fn some_useful(p: usize) -> bool
     requires { p < 1296 }
     ensures { NoneUseful (36 * p) (36 * p + 36) result }
 {
-    let f = pair_frames::frame_at(36 * p);
+    let f = pair_frames::frame_at(STOPS * p);
     if f.cut < f.start {
         return false;
     }
     if f.split < f.begin {
         return false;
     }
-    let mut s: usize = 0;
-    while s < 36 {
-        if useful_kinds(36 * p + s) != 0 {
+    for s in 0..STOPS {
+        if useful_kinds(STOPS * p + s) != 0 {
             return true;
         }
-        s += 1;
     }
     false
 }
@@ -82,10 +95,10 @@ fn put_entry(words: &mut [u64], n: usize, c: usize, kinds: u64, from: usize, end
     requires { (search_words ≤ length words.old) × (n < 256) }
     ensures { EntryPut words.old words.new n c kinds from end }
 {
-    words[65536 + 4 * n] = c as u64;
-    words[65537 + 4 * n] = kinds;
-    words[65538 + 4 * n] = from as u64;
-    words[65539 + 4 * n] = end as u64;
+    words[ENTRIES + 4 * n] = c as u64;
+    words[ENTRIES + 1 + 4 * n] = kinds;
+    words[ENTRIES + 2 + 4 * n] = from as u64;
+    words[ENTRIES + 3 + 4 * n] = end as u64;
 }
 
 // Enters the frame with the number, if it is of use; how many entries there are now.
@@ -111,10 +124,8 @@ fn enter_all(words: &mut [u64], n: usize, p: usize, from: usize, end: usize) -> 
         end }
 {
     let mut m = n;
-    let mut s: usize = 0;
-    while s < 36 {
-        m = enter(words, m, 36 * p + s, from, end);
-        s += 1;
+    for s in 0..STOPS {
+        m = enter(words, m, STOPS * p + s, from, end);
     }
     m
 }
@@ -129,7 +140,7 @@ fn add_starts(words: &mut [u64], s: Stage) -> Stage
     let p = s.starts;
     let from = s.free;
     if some_useful(p) {
-        let f = pair_frames::frame_at(36 * p);
+        let f = pair_frames::frame_at(STOPS * p);
         let end = pair_offsets::list_evens(f, words, from);
         let n = enter_all(words, s.entries, p, from, end);
         return Stage {
@@ -153,17 +164,17 @@ pub fn prepare(words: &mut [u64], p: usize) -> Stage
     let mut s = Stage {
         starts: p,
         entries: 0,
-        free: 66560,
+        free: LISTS,
     };
     loop {
         s = add_starts(words, s);
-        if s.starts == 1296 {
+        if s.starts == STARTS {
             return s;
         }
-        if 220 < s.entries {
+        if FEW < s.entries {
             return s;
         }
-        if 69632 < s.free {
+        if LAST_LIST < s.free {
             return s;
         }
     }

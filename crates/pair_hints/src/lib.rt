@@ -6,10 +6,13 @@ ghost use Rattle.std.specs.Prelude.{◌≤◌, ◌<◌, length};
 ghost use Rattle.pair_tables.specs.Reading.{Small};
 
 use pair_offsets::Frame;
-use pair_steps::{Node, Words};
+use pair_steps::{ENTRIES, NEXT_WORDS, Node, SORT_WORDS, Words};
 
 // Two words for each hint, behind 32 that say where those of each two numbers of children stand.
 pub const HINTS: usize = 1024;
+
+// The place of a word that stands for no relation: the pieces share no token.
+const APART: u64 = 36;
 
 // Where the first and the second child of two nodes over a frame stop.
 #[derive(Clone, Copy)]
@@ -33,17 +36,14 @@ fn stops_of(f: Frame, kx: u8, ky: u8) -> Stops {
     }
 }
 
-// Where the relations of pieces from `a` to `b` and from `c` to `d` stand in a word; 36 if they
-// share no token.
+// Where the relations of pieces from `a` to `b` and from `c` to `d` stand in a word.
 fn place(a: u8, b: u8, c: u8, d: u8) -> u64 {
-    if a < d {
-        if c < b {
-            let o = pair_steps::order_code(a, c);
-            let p = pair_steps::order_code(b, d);
-            return 12 * o + 4 * p;
-        }
+    if a < d && c < b {
+        let o = pair_steps::order_code(a, c);
+        let p = pair_steps::order_code(b, d);
+        return 12 * o + 4 * p;
     }
-    36
+    APART
 }
 
 // The places of the relations that a step reads, six bits each.
@@ -59,23 +59,14 @@ fn places(f: Frame, s: Stops) -> u64 {
     yc | yd << 6 | xc << 12 | xd << 18 | cc << 24 | cd << 30 | dc << 36 | dd << 42
 }
 
-fn flag(yes: bool) -> u64 {
-    if yes {
-        return 1;
-    }
-    0
-}
-
 // 1 if two pieces share a token, and the one that stops first does so at `r`.
 fn stop_flag(a: u8, b: u8, c: u8, d: u8, r: u8) -> u64 {
-    if a < d {
-        if c < b {
-            if b < d {
-                return flag(b == r);
-            }
-            if d < b {
-                return flag(d == r);
-            }
+    if a < d && c < b {
+        if b < d {
+            return u64::from(b == r);
+        }
+        if d < b {
+            return u64::from(d == r);
         }
     }
     0
@@ -99,44 +90,34 @@ fn cut_flag(kids: u8, p: u8, r: u8) -> u64 {
     if kids < 2 {
         return 0;
     }
-    flag(p == r)
+    u64::from(p == r)
 }
 
 // Whether the nodes start at `r`, or are cut there.
 fn begin_flags(f: Frame, kx: u8, ky: u8, r: u8) -> u64 {
-    let x = flag(f.start == r);
+    let x = u64::from(f.start == r);
     let m = cut_flag(kx, f.cut, r);
-    let y = flag(f.begin == r);
+    let y = u64::from(f.begin == r);
     let n = cut_flag(ky, f.split, r);
     x | m << 1 | y << 2 | n << 3
 }
 
 // 1 if `p` is after `i` and before `j`.
 fn inside_flag(i: u8, p: u8, j: u8) -> u64 {
-    if i < p {
-        return flag(p < j);
-    }
-    0
+    u64::from(i < p && p < j)
 }
 
 // Whether the second node starts inside the first, the first inside the second, or both at once.
 fn start_flags(f: Frame) -> u64 {
     let x = inside_flag(f.start, f.begin, f.stop);
     let y = inside_flag(f.begin, f.start, f.end);
-    let same = flag(f.start == f.begin);
+    let same = u64::from(f.start == f.begin);
     x | y << 1 | same << 2
-}
-
-fn least(a: u8, b: u8) -> u8 {
-    if a < b {
-        return a;
-    }
-    b
 }
 
 // All flags of a frame under nodes with so many children, and the place of their own relation.
 fn flags(f: Frame, kx: u8, ky: u8, s: Stops) -> u64 {
-    let r = least(f.stop, f.end);
+    let r = f.stop.min(f.end);
     let own = place(f.start, f.stop, f.begin, f.end);
     let stops = stop_flags(f, s, r);
     let begins = begin_flags(f, kx, ky, r);
@@ -150,22 +131,20 @@ fn exchanged(f: Frame) -> u64 {
     starts + 36 * (f.cut as u64) + 6 * (f.end as u64) + f.stop as u64
 }
 
-// The entry of a frame's number; 0 if there is none.
-fn entry_of(words: &[u64], n: usize, code: u64) -> usize
+// The entry of a frame's number, if there is one.
+fn entry_of(words: &[u64], n: usize, code: u64) -> Option<usize>
     requires { (73728 ≤ length words.now) × (n ≤ 256) }
 {
-    let mut k: usize = 0;
-    while k < n {
-        if words[65536 + 4 * k] == code {
-            return k;
+    for k in 0..n {
+        if words[ENTRIES + 4 * k] == code {
+            return Some(k);
         }
-        k += 1;
     }
-    0
+    None
 }
 
 // Puts the hint of an entry, two words, if there is room: places, the entry and the one with the
-// nodes exchanged, and flags. The next place.
+// nodes exchanged, or else the first, and flags. The next place.
 fn put_hint(words: &[u64], n: usize, k: usize, kind: u8, out: &mut [u64; HINTS], at: usize) -> usize
     requires { (73728 ≤ length words.now) × (n ≤ 256) × (k < n) × (at ≤ 1024) }
     ensures { result ≤ 1024 }
@@ -175,9 +154,9 @@ fn put_hint(words: &[u64], n: usize, k: usize, kind: u8, out: &mut [u64; HINTS],
     }
     let kx = kind / 4;
     let ky = kind % 4;
-    let f = pair_frames::frame_at(words[65536 + 4 * k] as usize);
+    let f = pair_frames::frame_at(words[ENTRIES + 4 * k] as usize);
     let s = stops_of(f, kx, ky);
-    let other = entry_of(words, n, exchanged(f));
+    let other = entry_of(words, n, exchanged(f)).unwrap_or(0);
     out[at] = places(f, s) | (k as u64) << 48 | (other as u64) << 56;
     out[at + 1] = flags(f, kx, ky, s);
     at + 2
@@ -188,7 +167,7 @@ fn put_if(words: &[u64], n: usize, k: usize, kind: u8, out: &mut [u64; HINTS], a
     requires { (73728 ≤ length words.now) × (n ≤ 256) × (k < n) × (at ≤ 1024) × (kind < 16) }
     ensures { result ≤ 1024 }
 {
-    if sets::has(words[65537 + 4 * k], kind) {
+    if sets::has(words[ENTRIES + 1 + 4 * k], kind) {
         return put_hint(words, n, k, kind, out, at);
     }
     at
@@ -200,10 +179,8 @@ fn put_kind(words: &[u64], n: usize, kind: u8, out: &mut [u64; HINTS], from: usi
     ensures { result ≤ 1024 }
 {
     let mut at = from;
-    let mut k: usize = 0;
-    while k < n {
+    for k in 0..n {
         at = put_if(words, n, k, kind, out, at);
-        k += 1;
     }
     at
 }
@@ -213,12 +190,10 @@ pub fn list_hints(words: &[u64], n: usize, out: &mut [u64; HINTS])
     requires { (73728 ≤ length words.now) × (n ≤ 256) }
 {
     let mut at: usize = 32;
-    let mut kind: u8 = 0;
-    while kind < 16 {
+    for kind in 0u8..16 {
         out[2 * (kind as usize)] = at as u64;
         at = put_kind(words, n, kind, out, at);
         out[2 * (kind as usize) + 1] = at as u64;
-        kind += 1;
     }
 }
 
@@ -250,7 +225,7 @@ pub fn hints_end(hints: &[u64; HINTS], kind: u8) -> usize
 
 // The word with all offsets at the place of no relation.
 fn open(w: u64) -> u64 {
-    w | 1030792151040
+    w | 15 << APART
 }
 
 pub fn open_words(w: Words) -> Words {
@@ -273,8 +248,10 @@ fn offsets(w: u64, places: u64, at: u64) -> u64
     w >> (places >> at) % 64
 }
 
-// Do the words leave offsets for all four starts?
-fn may_stand(w: Words, places: u64) -> bool {
+// May nodes with these words stand by a hint's places: do the words leave offsets for all four
+// starts?
+#[inline(always)]
+pub fn may_stand(w: Words, places: u64) -> bool {
     let starts = offsets(w.yc, places, 0) & offsets(w.xc, places, 12) & offsets(w.cc, places, 24);
     if starts & 15 == 0 {
         return false;
@@ -286,22 +263,6 @@ fn may_stand(w: Words, places: u64) -> bool {
         return false;
     }
     offsets(w.dd, places, 42) & 15 != 0
-}
-
-// The first hint from a place on by which nodes with these words may stand; past the end if there
-// is none.
-pub fn next_hint(hints: &[u64; HINTS], w: Words, from: usize, end: usize) -> usize
-    requires { end ≤ 1023 }
-    ensures { from ≤ result }
-{
-    let mut at = from;
-    while at < end {
-        if may_stand(w, hints[at]) {
-            return at;
-        }
-        at += 2;
-    }
-    at
 }
 
 // The offsets left to the two starts.
@@ -323,7 +284,7 @@ fn starts_left(w: Words, x: Node, y: Node, places: u64, flags: u64) -> u64 {
 fn next_at(t: &[u64], a: u8, b: u8, place: u64) -> u64
     requires { (73728 ≤ length t.now) × (a < 64) × (b < 64) }
 {
-    t[28672 + (9 * (64 * (a as usize) + b as usize) + (place / 4 % 16) as usize)]
+    t[NEXT_WORDS + (9 * (64 * (a as usize) + b as usize) + (place / 4 % 16) as usize)]
 }
 
 // The terminals of `q` left by a relation, if the flag says that it has a say.
@@ -338,7 +299,7 @@ fn narrowed(q: u64, yes: bool, t: &[u64], a: u8, b: u8, places: u64) -> u64
 
 // The terminals left by the nodes that start or are cut at the stop that comes first.
 fn begins_left(x: Node, y: Node, flags: u64) -> u64 {
-    let mut q: u64 = 18446744073709551615;
+    let mut q: u64 = u64::MAX;
     if sets::has(flags, 8) {
         q &= x.begin;
     }
@@ -391,7 +352,7 @@ fn has_offsets(t: &[u64], x: Node, y: Node, i: usize, j: usize, m: u64, own: u64
     let a = x.sort as usize;
     let b = y.sort as usize;
     let bits = m << own;
-    if t[64 * i + b] & t[24576 + (64 * a + b)] & bits != bits {
+    if t[64 * i + b] & t[SORT_WORDS + (64 * a + b)] & bits != bits {
         return false;
     }
     let back = m << (32 - own);

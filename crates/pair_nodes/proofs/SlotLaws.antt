@@ -1,6 +1,7 @@
 -- The node at each number is that of the shape with this number.
 use mathlib.Core.Path.{◌≡◌, refl, sym, ap, ◌∙◌, subst}
 use mathlib.Core.List.{List}
+use Rattle.std.specs.Prelude.{Option, Some, None}
 use Prim.Native.Nat.{ℕ, zero, suc, ◌+◌, ◌*◌, ◌/◌, ◌%◌, ◌≤◌, ◌<◌}
 use native.Mathlib.Omega.{arith}
 use native.Mathlib.Decide.{ℕ_discrete}
@@ -25,13 +26,15 @@ use Rattle.pairs.specs.Shapes.{HasForm, tips, units, twos, firsts, seconds, Head
 use Rattle.survey.specs.declared.Levels.{Levels}
 use Rattle.survey.specs.Closing.{LevelsOf}
 use Rattle.survey.proofs.Weakest.{level_weakest, level_nothing, unrank, unrank_rank}
+use Rattle.heads.specs.declared.Kind.{Kind}
 use Rattle.heads.specs.declared.Looks.{Looks}
 use Rattle.heads.specs.declared.Shaped.{Shaped}
-use Rattle.heads.specs.Forms.{shape_by, SaysForm, MarkOf, LooksLike, ShapedAs}
+use Rattle.heads.specs.Forms.{kind_numbered, shape_by, form_of, SaysForm, MarkOf, LooksLike}
+use Rattle.heads.specs.Forms.{ShapedAs}
 use Rattle.firsts.specs.Rows.{ByNonterminal}
 use Rattle.pair_steps.specs.Nodes.{level_of, NodeOf, Weakest, shape_number}
 use Rattle.pair_nodes.specs.Slots.{node_at, Present, NodesOf}
-use Rattle.pair_nodes.specs.Putting.{KeptTo, SmallLooks, Shows, SlotBy, Slotted}
+use Rattle.pair_nodes.specs.Putting.{KeptTo, SmallIfAny, Shows, SlotBy, Slotted}
 use Rattle.pair_nodes.specs.Putting.{SlotIs, SlotPut, SlotsTo, Cleared, HasWeakest}
 
 -- 1. shapes by number
@@ -41,12 +44,12 @@ number_rule (all p) h = omega arith
 number_rule (first p) h = omega arith
 number_rule (second p) h = omega arith
 
-rule_of_kind : (k p : ℕ) → rule_of_shape (shape_by k p) ≡ p
-rule_of_kind zero p = refl
-rule_of_kind (suc zero) p = refl
-rule_of_kind (suc (suc k)) p = refl
+rule_of_kind : (k : Kind) (p : ℕ) → rule_of_shape (shape_by k p) ≡ p
+rule_of_kind Kind.All p = refl
+rule_of_kind Kind.First p = refl
+rule_of_kind Kind.Second p = refl
 
-number_of_kind : (k p : ℕ) → k < 3 → shape_number (shape_by k p) ≡ 128 * k + p
+number_of_kind : (k p : ℕ) → k < 3 → shape_number (shape_by (kind_numbered k) p) ≡ 128 * k + p
 number_of_kind zero p h = omega arith
 number_of_kind (suc zero) p h = omega arith
 number_of_kind (suc (suc zero)) p h = omega arith
@@ -172,12 +175,12 @@ module _ {g : Grammar} (fo : Formed g) where
       → (C < 64) × (D < 64)
   small_two (twos {p = n} i r p q) = small_clause n r
 
-  looks_small : (A : ℕ) (s : Shape) (z : Looks) → SaysForm z (LooksLike (rules_of g) A s)
-      → SmallLooks z
-  looks_small A s Looks.Nothing x = tt
-  looks_small A s (Looks.Tip a b) x = small_tip x.form
-  looks_small A s (Looks.One C l k) x = small_one x.form
-  looks_small A s (Looks.Two C D m l) x = small_two x.form
+  looks_small : (A : ℕ) (s : Shape) (z : Option Looks) → SaysForm z (LooksLike (rules_of g) A s)
+      → SmallIfAny z
+  looks_small A s None x = tt
+  looks_small A s (Some (Looks.Tip a b)) x = small_tip x.form
+  looks_small A s (Some (Looks.One C l k)) x = small_one x.form
+  looks_small A s (Some (Looks.Two C D m l)) x = small_two x.form
 
   weakest_by : (f : Form) (m k : UnaryMark) → MarkOf f m → rank m ≤ rank k → rank
       (level_of f) ≤ rank k
@@ -220,10 +223,10 @@ module _ {g : Grammar} (fo : Formed g) where
           all = λ B r h k e. w.there;
         }
 
-    slot_by : (z : Looks) → SaysForm z (LooksLike (rules_of g) A s)
-        → (z ≡ Looks.Nothing → (B : ℕ) (f : Form) → HasForm (rules_of g) B s f → ⊥)
+    slot_by : (z : Option Looks) → SaysForm z (LooksLike (rules_of g) A s)
+        → (z ≡ None → (B : ℕ) (f : Form) → HasForm (rules_of g) B s f → ⊥)
         → SlotBy ts A z ns (shape_number s) → SlotIs (rules_of g) ns (shape_number s)
-    slot_by Looks.Nothing x none gone =
+    slot_by None x none gone =
         record {
           only = λ p. absurd (gone p);
           all = λ B r f h e.
@@ -232,20 +235,19 @@ module _ {g : Grammar} (fo : Formed g) where
               (subst (λ (t : Shape). HasForm (rules_of g) B t f) (shape_one r s (place h) low e)
               h));
         }
-    slot_by (Looks.Tip a b) x none w = shown (tip a b) x w
-    slot_by (Looks.One C l k) x none w = shown (one C l k) x w
-    slot_by (Looks.Two C D m l) x none w = shown (two C D m l) x w
+    slot_by (Some z) x none w = shown (form_of z) x w
 
   -- what `head_of` says of a number was put there
   pub slot_put : {ts old new : List ℕ} {i : ℕ} (z : Shaped) → i < 384 → i % 128 < g.count
-      → ByNonterminal (rules_of g) 64 ts → ShapedAs (rules_of g) (shape_by (i / 128) (i % 128)) z
+      → ByNonterminal (rules_of g) 64 ts
+      → ShapedAs (rules_of g) (shape_by (kind_numbered (i / 128)) (i % 128)) z
       → Slotted ts z.sort z.looks old new i → SlotPut (rules_of g) old new i
   slot_put {ts} {old} {new} {i} z l c bt x w =
-      let s = shape_by (i / 128) (i % 128) in
-      let n : shape_number (shape_by (i / 128) (i % 128)) ≡ i =
+      let s = shape_by (kind_numbered (i / 128)) (i % 128) in
+      let n : shape_number (shape_by (kind_numbered (i / 128)) (i % 128)) ≡ i =
       number_of_kind (i / 128) (i % 128) (omega arith) ∙ omega arith in
-      let low : rule_of_shape (shape_by (i / 128) (i % 128)) < 128 =
-      rw (rule_of_kind (i / 128) (i % 128)) (omega arith) in
+      let low : rule_of_shape (shape_by (kind_numbered (i / 128)) (i % 128)) < 128 =
+      rw (rule_of_kind (kind_numbered (i / 128)) (i % 128)) (omega arith) in
       record {
         before = w.before;
         slot =
@@ -254,7 +256,7 @@ module _ {g : Grammar} (fo : Formed g) where
             (subst (SlotBy ts z.sort z.looks new) (sym n) w.by));
       }
 
-  pub looks_fit : {s : Shape} {z : Shaped} → ShapedAs (rules_of g) s z → SmallLooks z.looks
+  pub looks_fit : {s : Shape} {z : Shaped} → ShapedAs (rules_of g) s z → SmallIfAny z.looks
   looks_fit {s} {z} x = looks_small z.sort s z.looks x.says
 
   -- there is no rule

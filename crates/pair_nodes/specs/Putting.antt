@@ -1,12 +1,13 @@
 -- How nodes are made and put into words. For the contracts of inner functions only.
-use Rattle.std.specs.Prelude.{◌≡◌, List, ℕ, ◌*◌, ◌^◌, ◌≤◌, ◌<◌, length, get_or}
+use Rattle.std.specs.Prelude.{◌≡◌, Option, Some, None, List, ℕ, ◌*◌, ◌^◌, ◌≤◌, ◌<◌, length, get_or}
 use Rattle.sets.specs.Sets.{In}
 use Rattle.grammar.specs.declared.UnaryMark.{UnaryMark}
 use Rattle.grammar.specs.Trees.{Rules, Covers}
 use Rattle.pairs.specs.Survey.{Inherits}
-use Rattle.pairs.specs.Shapes.{Form, tip, one, two, Shape, HasForm}
+use Rattle.pairs.specs.Shapes.{Form, Shape, HasForm}
 use Rattle.survey.specs.Closing.{Weakest}
 use Rattle.heads.specs.declared.Looks.{Looks}
+use Rattle.heads.specs.Forms.{form_of}
 use Rattle.firsts.specs.Rows.{ByNonterminal}
 use Rattle.pair_steps.specs.declared.Node.{Node}
 use Rattle.pair_steps.specs.Nodes.{kid_count, first_of, second_of, KeepAsked, JoinAsked, PartAsked}
@@ -53,23 +54,25 @@ pub record Cleared (old new : List ℕ) (i : ℕ) : Type 0 where
 
 -- the numbers of what a shape looks like are in range
 abbrev pub SmallLooks : Looks → Type 0
-SmallLooks Looks.Nothing = Unit {0}
 SmallLooks (Looks.Tip a b) = b < 64
 SmallLooks (Looks.One C l k) = C < 64
 SmallLooks (Looks.Two C D m l) = (C < 64) × (D < 64)
+
+abbrev pub SmallIfAny : Option Looks → Type 0
+SmallIfAny None = Unit {0}
+SmallIfAny (Some z) = SmallLooks z
 
 -- at i stands what the shape looks like
 pub record Shows (ts : List ℕ) (A : ℕ) (f : Form) (new : List ℕ) (i : ℕ) : Type 0 where
   pub there : Present new i
   pub describes : Describes ts A f (node_at new i)
 
-abbrev pub SlotBy : List ℕ → ℕ → Looks → List ℕ → ℕ → Type 0
-SlotBy ts A Looks.Nothing new i = Present new i → ⊥
-SlotBy ts A (Looks.Tip a b) new i = Shows ts A (tip a b) new i
-SlotBy ts A (Looks.One C l k) new i = Shows ts A (one C l k) new i
-SlotBy ts A (Looks.Two C D m l) new i = Shows ts A (two C D m l) new i
+abbrev pub SlotBy : List ℕ → ℕ → Option Looks → List ℕ → ℕ → Type 0
+SlotBy ts A None new i = Present new i → ⊥
+SlotBy ts A (Some z) new i = Shows ts A (form_of z) new i
 
-pub record Slotted (ts : List ℕ) (A : ℕ) (looks : Looks) (old new : List ℕ) (i : ℕ) : Type 0 where
+pub record Slotted (ts : List ℕ) (A : ℕ) (looks : Option Looks) (old new : List ℕ) (i : ℕ) : Type
+    0 where
   pub before : KeptTo old new i
   pub by : SlotBy ts A looks new i
 

@@ -11,24 +11,32 @@ ghost use Rattle.acyclic.specs.Exact.{Exactly};
 ghost use Rattle.pairs.specs.Survey.{Productive};
 ghost use Rattle.pairs.specs.Shapes.{tip, one, two};
 ghost use Rattle.survey.specs.Closing.{LevelsOf};
+ghost use Rattle.heads.specs.Forms.{form_of};
 ghost use Rattle.firsts.specs.Rows.{ByNonterminal};
 ghost use Rattle.pair_steps.specs.Nodes.{SetOf};
 ghost use Rattle.pair_tables.specs.Reading.{Small};
 ghost use Rattle.pair_nodes.specs.Slots.{node_at, Present};
 ghost use Rattle.pair_nodes.specs.Putting.{Fits, Describes, Stored, Cleared, SmallLooks};
+ghost use Rattle.pair_nodes.specs.Putting.{SmallIfAny};
 ghost use Rattle.pair_nodes.specs.Putting.{Slotted, SlotPut, NodesMade};
 
 use grammar::{BinaryMark, Grammar, UnaryMark};
-use heads::Looks;
-use pair_steps::Node;
+use heads::{Kind, Looks};
+use pair_steps::{Node, SHAPES};
 use survey::Levels;
+
+// How many words the nodes of all shapes take.
+pub const NODE_WORDS: usize = 4 * SHAPES;
+
+// A node's first word is no less.
+const NODE: u64 = 1 << 20;
 
 // Has the shape with this number a node?
 pub fn present(nodes: &[u64], i: usize) -> bool
     requires { (1536 ≤ length nodes.now) × (i < 384) }
     ensures { Says result (Present nodes.now i) }
 {
-    1048576 <= nodes[4 * i]
+    NODE <= nodes[4 * i]
 }
 
 // Its node.
@@ -59,10 +67,8 @@ fn range(a: u8, b: u8) -> u64
     ensures { SetOf result (Covers a b) }
 {
     let mut set: u64 = 0;
-    let mut x = a;
-    while x <= b {
+    for x in a..=b {
         set = sets::with(set, x);
-        x += 1;
     }
     set
 }
@@ -136,7 +142,7 @@ fn put_node(v: Node, i: usize, out: &mut [u64])
     ensures { Stored out.old out.new i v }
 {
     let sorts = 4 * (v.sort as u64) + 256 * (v.first as u64) + 16384 * (v.second as u64);
-    out[4 * i] = v.kids as u64 + sorts + 1048576;
+    out[4 * i] = v.kids as u64 + sorts + NODE;
     out[4 * i + 1] = v.keep + 16 * v.join + 256 * v.apart;
     out[4 * i + 2] = v.begin;
     out[4 * i + 3] = v.next;
@@ -150,27 +156,28 @@ fn clear_node(i: usize, out: &mut [u64])
     out[4 * i] = 0;
 }
 
+// A node of `sort` that looks so.
+fn node_of(begins: &[u64], sort: u8, looks: Looks) -> Node
+    requires { (64 ≤ length begins.now) × (sort < 64) × SmallLooks looks }
+    ensures { Describes begins.now sort (form_of looks) result }
+{
+    match looks {
+        Looks::Tip(a, b) => tip_node(begins, sort, a, b),
+        Looks::One(c, l, k) => one_node(begins, sort, c, l, k),
+        Looks::Two(c, d, m, l) => two_node(begins, sort, c, d, m, l),
+    }
+}
+
 // Puts what a shape looks like.
-fn put_looks(begins: &[u64], sort: u8, looks: Looks, i: usize, out: &mut [u64])
-    requires in_bounds { (64 ≤ length begins.now) × (sort < 64) × SmallLooks looks }
+fn put_looks(begins: &[u64], sort: u8, looks: Option<Looks>, i: usize, out: &mut [u64])
+    requires in_bounds { (64 ≤ length begins.now) × (sort < 64) × SmallIfAny looks }
     requires in_bounds_2 { (1536 ≤ length out.old) × (i < 384) }
     ensures { Slotted begins.now sort looks out.old out.new
         i }
 {
     match looks {
-        Looks::Nothing => clear_node(i, out),
-        Looks::Tip(a, b) => {
-            let v = tip_node(begins, sort, a, b);
-            put_node(v, i, out)
-        }
-        Looks::One(c, l, k) => {
-            let v = one_node(begins, sort, c, l, k);
-            put_node(v, i, out)
-        }
-        Looks::Two(c, d, m, l) => {
-            let v = two_node(begins, sort, c, d, m, l);
-            put_node(v, i, out)
-        }
+        None => clear_node(i, out),
+        Some(z) => put_node(node_of(begins, sort, z), i, out),
     }
 }
 
@@ -192,10 +199,9 @@ fn put_shape(
 {
     let p = i % 128;
     if p < g.count {
-        let kind = (i / 128) as u8;
+        let kind = Kind::numbered(i / 128);
         let s = heads::head_of(g, nulls, prods, levels, kind, p);
-        let looks = s.looks;
-        put_looks(begins, s.sort, looks, i, out);
+        put_looks(begins, s.sort, s.looks, i, out);
         return;
     }
     clear_node(i, out);
@@ -211,9 +217,7 @@ pub fn fill_nodes(g: Grammar, nulls: u64, prods: u64, out: &mut [u64])
     let levels = survey::inherited(g, nulls, prods);
     let mut begins = [0u64; 64];
     firsts::fill_firsts(g, nulls, prods, &mut begins);
-    let mut i: usize = 0;
-    while i < 384 {
+    for i in 0..SHAPES {
         put_shape(g, nulls, prods, levels, &begins, i, out);
-        i += 1;
     }
 }

@@ -102,10 +102,7 @@ fn fine(p: u8, q: u8, r: u8, a: u64, b: u64, c: u64) -> bool
     requires { (a ≤ 3) × (b ≤ 3) × (c ≤ 3) }
     ensures { TrioSays p q r a b c result }
 {
-    if sames(p, q, r, a, b, c) {
-        return tris(p, q, r, a, b, c);
-    }
-    false
+    sames(p, q, r, a, b, c) && tris(p, q, r, a, b, c)
 }
 
 // Can the six offsets of `t`, a digit to the base 4 for each, stand together over the frame?
@@ -147,26 +144,23 @@ pub fn list_evens(f: Frame, out: &mut [u64], from: usize) -> usize
     ensures { Listing f out.old out.new from 4096 result }
 {
     let mut n = from;
-    let mut t: u64 = 0;
-    while t < 4096 {
+    for t in 0u64..4096 {
         n = push_even(f, out, n, t);
-        t += 1;
     }
     n
 }
 
 // The same over a frame whose two starts are one: they are beside each other in each six, so that
 // there are no more than 1024.
+// Kept: one function for both takes the step and the room besides, and is longer than the two.
 pub fn list_from_one(f: Frame, out: &mut [u64], from: usize) -> usize
     requires { (from + 1024 ≤ length out.old) × (f.start ≡ f.begin) }
     ensures { Listing f out.old out.new from 4096 result
         × (result ≤ from + 1024) }
 {
     let mut n = from;
-    let mut t: u64 = 0;
-    while t < 1024 {
+    for t in 0u64..1024 {
         n = push_even(f, out, n, 4 * t);
-        t += 1;
     }
     n
 }
@@ -226,14 +220,12 @@ pub fn offsets_left(list: &[u64], from: usize, end: usize, m: Masks) -> u64
     ensures { OffsetsLeft list.now from end m result }
 {
     let mut r: u64 = 0;
-    let mut i = from;
-    while i < end {
+    for i in from..end {
         if r == m.ac {
             return r;
         }
         let t = list[i];
         r = with_offset(r, t, m);
-        i += 1;
     }
     r
 }

@@ -5,14 +5,15 @@ use mathlib.Core.List.{List, [], ◌∷◌, ◌++◌}
 use Prim.Native.Nat.{ℕ, zero, suc, ◌+◌, ◌-◌, ◌*◌, ◌^◌, ◌≤◌, ◌<◌}
 use native.Mathlib.Omega.{arith}
 use native.Mathlib.Decide.{dec_lt}
-use lib.ListN.{length, get_or, take, drop, set, length-set, length-take, length-drop}
+use lib.ListN.{length, get_or, take, drop, length-take, length-drop}
 use lib.ListN.{take-append-drop}
-use lib.Seq.{get_or-take, get_or-drop, ext_get_or, get_or-set_same, get_or-set_other}
+use lib.Seq.{get_or-take, get_or-drop, ext_get_or}
 use Rattle.pair_steps.proofs.ShapeNumbers.{shape_low}
 use Rattle.sets.specs.Sets.{In}
 use Rattle.sets.proofs.Sets.{in_zero}
 use Rattle.sets.proofs.Says.{true_not_false}
 use Rattle.grammar.specs.Trees.{Rules}
+use Rattle.spans.specs.Changes.{Cleared}
 use Rattle.grammar.proofs.Lists.{mem_every}
 use Rattle.pairs.specs.Shapes.{Head}
 use Rattle.pairs.specs.Relations.{Offset}
@@ -40,7 +41,6 @@ use Rattle.pair_search.specs.Filling.{FilledTable}
 use Rattle.pair_search.specs.Running.{PairOf, Settled, Ran, Ready, LastRows, Quick, Rested}
 use Rattle.pair_search.specs.Running.{AllTo}
 use Rattle.pair_search.specs.Running.{BothSettled, at_first, later, table_sum, Round, Searched}
-use Rattle.pair_search.specs.Running.{ClearedTo}
 use Rattle.pair_search.proofs.RunLaws.{suits_told, ran_then, and_true₁, and_true₂}
 
 -- 1. the sum of the table's words
@@ -430,31 +430,13 @@ search_less {v = v} a e low = omega (arith, a.more e, table_most v low)
 
 -- 5. the words at first
 
-pub cleared_none : (t : List ℕ) → ClearedTo t t 0
-cleared_none t = record { size = refl; zeros = λ i h. absurd (omega arith); past = λ i h. refl }
-
-pub cleared_more : {t u : List ℕ} (n : ℕ) → n < length u → ClearedTo t u n
-    → ClearedTo t (set u n 0) (n + 1)
-cleared_more {t} {u} n h c =
-    record {
-      size = length-set u n 0 ∙ c.size;
-      zeros = λ i k. by i k (dec_lt i n);
-      past = λ i k. get_or-set_other u n i 0 0 (λ e. omega arith) ∙ c.past i (omega arith);
-    }
-  where
-    by : (i : ℕ) → i < n + 1 → Dec (i < n) → get_or (set u n 0) i 0 ≡ 0
-    by i k (yes l) = get_or-set_other u n i 0 0 (λ e. omega arith) ∙ c.zeros i l
-    by i k (no l) =
-        let e : n ≡ i = omega arith in
-        subst (λ (m : ℕ). get_or (set u n 0) m 0 ≡ 0) e (get_or-set_same u n 0 0 h)
-
 nothing : (a : Fact) → Proper a → InTable [] a → ⊥
 nothing (stand σ x y) p h = p
 nothing (against s B r) p h = in_zero (bit_of r) h
 nothing (sorts A B r) p h = in_zero (bit_of r) h
 nothing (behind A B o q z) p h = in_zero z h
 
-pub cleared_sound : {t u : List ℕ} {g : Rules} → ClearedTo t u search_words → SoundTable g u
+pub cleared_sound : {t u : List ℕ} {g : Rules} → Cleared t u search_words → SoundTable g u
 cleared_sound c =
     record {
       sound = λ a p h. absurd
@@ -462,10 +444,10 @@ cleared_sound c =
           h));
     }
 
-pub filled : {ns t u v : List ℕ} → ClearedTo t u search_words → Searched ns u v → FilledTable ns t v
+pub filled : {ns t u v : List ℕ} → Cleared t u search_words → Searched ns u v → FilledTable ns t v
 filled c s =
     record {
-      size = s.size ∙ c.size;
-      past = λ i h. s.past i h ∙ c.past i h;
+      size = s.size ∙ c.past.long;
+      past = λ i h. s.past i h ∙ c.past.rest i h;
       table = λ g h. s.table g h (cleared_sound c);
     }

@@ -6,7 +6,6 @@ use Prim.Native.Nat.{ℕ, ◌+◌, ◌-◌, ◌*◌, ◌≤◌, ◌<◌}
 use native.Mathlib.Omega.{arith}
 use native.Mathlib.Decide.{dec_lt}
 use lib.ListN.{length, get_or}
-use Rattle.sets.specs.Sets.{In}
 use Rattle.sets.proofs.Says.{true_not_false}
 use Rattle.grammar.specs.Trees.{Rules}
 use Rattle.pairs.specs.Shapes.{Head}
@@ -31,9 +30,9 @@ use Rattle.pair_tables.proofs.StepKept.{code_low, step_kept}
 use Rattle.pair_tables.proofs.StepSound.{step_sound}
 use Rattle.pair_nodes.specs.Slots.{node_at, Present, NodesOf}
 use Rattle.pair_frames.specs.Numbering.{frame_at}
-use Rattle.pair_entries.specs.Entries.{code_at, kinds_at}
+use Rattle.pair_entries.specs.Entries.{code_at}
 use Rattle.pair_entries.proofs.EntryLaws.{entry_same}
-use Rattle.pair_search.specs.Running.{Apt, PairOf, Settled, Ran, Ready, NextEntry, Met, Cell}
+use Rattle.pair_search.specs.Running.{Apt, PairOf, Settled, Ran, Ready, Met, Cell}
 use Rattle.pair_search.specs.Running.{LastCells, LastRows}
 
 -- 1. what two nodes read of a table
@@ -255,92 +254,41 @@ met_more {x = x} {y} {i} {j} k {t} a b =
         let e : k ≡ m = omega arith in
         subst (λ (n : ℕ). Settled x y i j (frame_at (code_at t n)) t) e q
 
--- entries that are for other numbers of children
-pub next_none : {t : List ℕ} {n kind from : ℕ} → LowTable t → from ≤ n
-    → NextEntry t n kind from from
-next_none w h =
-    record { low = omega arith; high = h; words = w; absent = λ k l m. absurd (omega arith) }
-
-pub next_more : {t : List ℕ} {n kind from k : ℕ} → k < n → (In (kinds_at t k) kind → ⊥)
-    → NextEntry t n kind from k → NextEntry t n kind from (k + 1)
-next_more {t} {kind = kind} {from} {k} h i o =
-    record {
-      low = omega (arith, o.low);
-      high = omega arith;
-      words = o.words;
-      absent = λ m l p. by m l p (dec_lt m k);
-    }
-  where
-    by : (m : ℕ) → from ≤ m → m < k + 1 → Dec (m < k) → In (kinds_at t m) kind → ⊥
-    by m l p (yes q) = o.absent m l q
-    by m l p (no q) =
-        let e : k ≡ m = omega arith in
-        subst (λ (m : ℕ). In (kinds_at t m) kind → ⊥) e i
-
-met_past : {x y : Node} {i j n a r : ℕ} {t : List ℕ} → Ready t n → Apt x → Apt y
-    → NextEntry t n (4 * x.kids + y.kids) a r → Met x y i j a t → Met x y i j r t
-met_past {x} {y} {i} {j} {n} {a} {r} {t} e sx sy o m =
-    record { met = λ k h. by k h (dec_lt k a) }
-  where
-    by : (k : ℕ) → k < r → Dec (k < a) → Settled x y i j (frame_at (code_at t k)) t
-    by k h (yes l) = m.met k l
-    by k h (no l) =
-        unsuited o.words (λ s. o.absent k (omega arith) h
-        ((e.each k (omega (arith, o.high))).kinds.has _ _ sx.kids sy.kids s))
-
-pub ran_past : {G : Rules → Type 0} {x y : Node} {i j n a r : ℕ} {t u : List ℕ} {s : Bool}
-    → Ready u n → Apt x → Apt y → NextEntry u n (4 * x.kids + y.kids) a r
-    → Ran G (Met x y i j a) t u s → Ran G (Met x y i j r) t u s
-ran_past {x = x} {y} {i} {j} {n} {a} {r} {t} {u} {s} e sx sy o m =
-    record {
-      size = m.size;
-      past = m.past;
-      sound = m.sound;
-      least = m.least;
-      more = m.more;
-      still = m.still;
-      then = λ q. by (m.still q) e o (m.then q);
-    }
-  where
-    by : {u : List ℕ} → u ≡ t → Ready u n → NextEntry u n (4 * x.kids + y.kids) a r
-        → Met x y i j a t → Met x y i j r t
-    by {u} q e o =
-        met_past (subst (λ (v : List ℕ). Ready v n) q e) sx sy
-        (subst (λ (v : List ℕ). NextEntry v n (4 * x.kids + y.kids) a r) q o)
-
 pub row_none : {G : Rules → Type 0} (ns : List ℕ) (i n : ℕ) (t : List ℕ)
     → Ran G (LastCells ns i n 0) t t true
 row_none ns i n t = stays (record { row = λ j h k. absurd (omega arith) })
 
-pub row_more : {G : Rules → Type 0} {ns : List ℕ} {i n : ℕ} (m : ℕ) {t u v : List ℕ} {r s : Bool}
-    → m < 384
-    → Ran G (LastCells ns i n m) t u r → Ran G (Cell ns i (383 - m) n) u v s
-    → Ran G (LastCells ns i n (m + 1)) t v (r && s)
-row_more {ns = ns} {i} {n} m {t} l a b =
-    ran_then (λ p q. record { row = λ j h k. by p q j h k (dec_lt (j + m) 384) }) a b
+pub row_more : {G : Rules → Type 0} {ns : List ℕ} {i n j : ℕ} {t u v : List ℕ} {r s : Bool}
+    → 0 < j → j ≤ 384
+    → Ran G (LastCells ns i n (384 - j)) t u r → Ran G (Cell ns i (j - 1) n) u v s
+    → Ran G (LastCells ns i n (384 - (j - 1))) t v (r && s)
+row_more {ns = ns} {i} {n} {j} {t} l o a b =
+    ran_then (λ p q. record { row = λ m h k. by p q m h k (dec_lt m j) }) a b
   where
-    by : LastCells ns i n m t → Cell ns i (383 - m) n t → (j : ℕ) → j < 384 → 384 ≤ j + (m + 1)
-        → Dec (j + m < 384) → Cell ns i j n t
-    by p q j h k (no d) = p.row j h (omega arith)
-    by p q j h k (yes d) = let e : 383 - m ≡ j = omega arith in
-        subst (λ (j : ℕ). Cell ns i j n t) e q
+    by : LastCells ns i n (384 - j) t → Cell ns i (j - 1) n t → (m : ℕ) → m < 384
+        → 384 ≤ m + (384 - (j - 1))
+        → Dec (m < j) → Cell ns i m n t
+    by p q m h k (no d) = p.row m h (omega arith)
+    by p q m h k (yes d) = let e : j - 1 ≡ m = omega arith in
+        subst (λ (m : ℕ). Cell ns i m n t) e q
 
 pub rows_none : {G : Rules → Type 0} (ns : List ℕ) (n : ℕ) (t : List ℕ)
     → Ran G (LastRows ns n 0) t t true
 rows_none ns n t = stays (record { rows = λ i h k. absurd (omega arith) })
 
-pub rows_more : {G : Rules → Type 0} {ns : List ℕ} {n : ℕ} (m : ℕ) {t u v : List ℕ} {r s : Bool}
-    → m < 384
-    → Ran G (LastRows ns n m) t u r → Ran G (LastCells ns (383 - m) n 384) u v s
-    → Ran G (LastRows ns n (m + 1)) t v (r && s)
-rows_more {ns = ns} {n} m {t} l a b =
-    ran_then (λ p q. record { rows = λ i h k. by p q i h k (dec_lt (i + m) 384) }) a b
+pub rows_more : {G : Rules → Type 0} {ns : List ℕ} {n i : ℕ} {t u v : List ℕ} {r s : Bool}
+    → 0 < i → i ≤ 384
+    → Ran G (LastRows ns n (384 - i)) t u r → Ran G (LastCells ns (i - 1) n 384) u v s
+    → Ran G (LastRows ns n (384 - (i - 1))) t v (r && s)
+rows_more {ns = ns} {n} {i} {t} l o a b =
+    ran_then (λ p q. record { rows = λ m h k. by p q m h k (dec_lt m i) }) a b
   where
-    by : LastRows ns n m t → LastCells ns (383 - m) n 384 t → (i : ℕ) → i < 384 → 384 ≤ i + (m + 1)
-        → Dec (i + m < 384) → LastCells ns i n 384 t
-    by p q i h k (no d) = p.rows i h (omega arith)
-    by p q i h k (yes d) = let e : 383 - m ≡ i = omega arith in
-        subst (λ (i : ℕ). LastCells ns i n 384 t) e q
+    by : LastRows ns n (384 - i) t → LastCells ns (i - 1) n 384 t → (m : ℕ) → m < 384
+        → 384 ≤ m + (384 - (i - 1))
+        → Dec (m < i) → LastCells ns m n 384 t
+    by p q m h k (no d) = p.rows m h (omega arith)
+    by p q m h k (yes d) = let e : i - 1 ≡ m = omega arith in
+        subst (λ (m : ℕ). LastCells ns m n 384 t) e q
 
 -- 5. nodes in their places
 

@@ -1,7 +1,6 @@
 -- What steps make of a table, one after the other. For the contracts of inner functions only.
 use Rattle.std.specs.Prelude.{◌≡◌, Bool, true, false, ◌&&◌, List, ℕ, ◌+◌, ◌≤◌, ◌<◌, length, get_or}
 use Rattle.std.specs.Prelude.{take}
-use Rattle.sets.specs.Sets.{In}
 use Rattle.grammar.specs.Trees.{Rules}
 use Rattle.pairs.specs.Shapes.{Head}
 use Rattle.pairs.specs.Relations.{Offset}
@@ -10,13 +9,13 @@ use Rattle.pair_offsets.specs.declared.Frame.{Frame}
 use Rattle.pair_offsets.specs.Frames.{rank_of}
 use Rattle.pair_steps.specs.declared.Node.{Node}
 use Rattle.pair_steps.specs.Nodes.{NodeOf, shape_number}
-use Rattle.pair_steps.specs.Tables.{LowTable, SoundTable}
+use Rattle.pair_steps.specs.Tables.{SoundTable}
 use Rattle.pair_steps.specs.Closing.{ToldBy, Kept}
 use Rattle.pair_tables.specs.Reading.{Small}
 use Rattle.pair_tables.specs.Stepping.{word_sum}
 use Rattle.pair_nodes.specs.Slots.{node_at, Present, NodesOf}
 use Rattle.pair_frames.specs.Numbering.{frame_at}
-use Rattle.pair_entries.specs.Entries.{search_words, code_at, kinds_at, EntryAt, Useful}
+use Rattle.pair_entries.specs.Entries.{search_words, code_at, EntryAt, Useful}
 use Rattle.pair_search.specs.Filling.{TableOf}
 
 -- a node that steps can be made of
@@ -56,13 +55,6 @@ pub record Ready (t : List ℕ) (n : ℕ) : Type 0 where
   pub room : search_words ≤ length t
   pub few : n ≤ 256
   pub each : (k : ℕ) → k < n → EntryAt t search_words k
-
--- r is the first of n entries from a place on for so many children, or n; the words are below 2^64
-pub record NextEntry (t : List ℕ) (n kind from r : ℕ) : Type 0 where
-  pub low : from ≤ r
-  pub high : r ≤ n
-  pub words : LowTable t
-  pub absent : (k : ℕ) → from ≤ k → k < r → In (kinds_at t k) kind → ⊥
 
 -- two nodes over the frames of the first n entries; the nodes i and j, if there are both; a node
 -- with the last m of 384; the last m with all
@@ -140,9 +132,3 @@ pub record Searched (ns old new : List ℕ) : Type 0 where
   pub size : length new ≡ length old
   pub past : (i : ℕ) → search_words ≤ i → get_or new i 0 ≡ get_or old i 0
   pub table : (g : Rules) → NodesOf g ns → SoundTable g old → TableOf g new
-
--- the words that the search needs are 0, the others as they were
-pub record ClearedTo (old new : List ℕ) (n : ℕ) : Type 0 where
-  pub size : length new ≡ length old
-  pub zeros : (i : ℕ) → i < n → get_or new i 0 ≡ 0
-  pub past : (i : ℕ) → n ≤ i → get_or new i 0 ≡ get_or old i 0

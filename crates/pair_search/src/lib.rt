@@ -1,85 +1,60 @@
 // The search: steps of all pairs of nodes over all frames, until no step adds to the table.
 #![tactic(auto)]
 
-ghost use Rattle.std.specs.Prelude.{◌≡◌, ◌&&◌, ◌+◌, ◌*◌, ◌≤◌, ◌<◌, length};
+ghost use Rattle.std.specs.Prelude.{◌≡◌, ◌+◌, ◌*◌, ◌≤◌, ◌<◌, length};
 ghost use Rattle.pair_tables.specs.Reading.{Small};
 ghost use Rattle.pair_nodes.specs.Slots.{node_at, Present};
 ghost use Rattle.pair_entries.specs.Entries.{search_words};
 ghost use Rattle.pair_search.specs.Filling.{FilledTable};
-ghost use Rattle.pair_search.specs.Running.{Apt, Ready, NextEntry, EntryRan};
+ghost use Rattle.pair_search.specs.Running.{Apt, Ready, EntryRan};
 ghost use Rattle.pair_search.specs.Running.{MetRan, CellRan, RowRan, RowsRan};
 ghost use Rattle.pair_search.specs.Running.{SomeRan, Quick, Rested, BothSettled};
-ghost use Rattle.pair_search.specs.Running.{Round, Searched, ClearedTo};
+ghost use Rattle.pair_search.specs.Running.{Round, Searched};
 
+use pair_entries::WORDS;
 use pair_hints::HINTS;
-use pair_steps::{Node, Words};
+use pair_steps::{ENTRIES, Node, SHAPES, Words};
 
-// What changed in a pass takes 512 words, for 384 shapes, 64 nonterminals and their last nodes; so
-// does what changed in the pass before.
-const MARKS: usize = 1024;
-
-fn both(x: bool, y: bool) -> bool
-    ensures { result ≡ (x && y) }
-{
-    if x {
-        return y;
-    }
-    false
+// What changed in a pass: the nonterminals with which the words of each shape and of each
+// nonterminal did, and the last node at which those of a nonterminal did.
+#[derive(Clone, Copy)]
+struct Changes {
+    shapes: [u64; SHAPES],
+    sorts: [u64; 64],
+    lasts: [u64; 64],
 }
 
-// Puts 0 into the words that the search needs.
-fn clear(words: &mut [u64])
-    requires { search_words ≤ length words.old }
-    ensures { ClearedTo words.old words.new search_words }
-{
-    let mut i: usize = 0;
-    while i < 73728 {
-        words[i] = 0;
-        i += 1;
-    }
+// What the quick passes go by: hints, and what changed in this pass and in the one before.
+#[derive(Clone, Copy)]
+struct Guess {
+    hints: [u64; HINTS],
+    now: Changes,
+    before: Changes,
 }
 
-// The first entry from a place on for nodes with `kind / 4` and `kind % 4` children; `n` if there
-// is none.
-fn next_entry(words: &[u64], n: usize, kind: u8, from: usize) -> usize
-    requires { (search_words ≤ length words.now) × (n ≤ 256) × (from ≤ n) × (kind < 16) }
-    ensures { NextEntry words.now n kind from result }
+// A step of two nodes over the frame of an entry, if it suits them. Had the table all? The flag
+// says that it is first asked whether there is anything to put; a hint has said so otherwise.
+#[inline(always)]
+fn step_entry<const ASK: bool>(
+    words: &mut [u64],
+    k: usize,
+    n: usize,
+    x: Node,
+    y: Node,
+    i: usize,
+    j: usize,
+) -> bool
+    requires { Ready words.old n × (k < n) × Apt x × Apt y × (i < 384) × (j < 384) }
+    ensures { EntryRan x y i j k words.old words.new result }
 {
-    let mut k = from;
-    while k < n {
-        if sets::has(words[65537 + 4 * k], kind) {
-            return k;
+    let kinds = words[ENTRIES + 1 + 4 * k];
+    if sets::has(kinds, 4 * x.kids + y.kids) {
+        let f = pair_frames::frame_at(words[ENTRIES + 4 * k] as usize);
+        let from = words[ENTRIES + 2 + 4 * k] as usize;
+        let end = words[ENTRIES + 3 + 4 * k] as usize;
+        if ASK {
+            return pair_tables::step(words, f, x, y, i, j, from, end);
         }
-        k += 1;
-    }
-    k
-}
-
-// A step of two nodes over the frame of an entry, if it suits them. Had the table all?
-fn step_entry(words: &mut [u64], k: usize, n: usize, x: Node, y: Node, i: usize, j: usize) -> bool
-    requires { Ready words.old n × (k < n) × Apt x × Apt y × (i < 384) × (j < 384) }
-    ensures { EntryRan x y i j k words.old words.new result }
-{
-    let kinds = words[65537 + 4 * k];
-    if sets::has(kinds, 4 * x.kids + y.kids) {
-        let f = pair_frames::frame_at(words[65536 + 4 * k] as usize);
-        let from = words[65538 + 4 * k] as usize;
-        let end = words[65539 + 4 * k] as usize;
-        return pair_tables::step(words, f, x, y, i, j, from, end);
-    }
-    true
-}
-
-// The same, where a hint says that there is something to put, so that it is not asked first.
-fn add_entry(words: &mut [u64], k: usize, n: usize, x: Node, y: Node, i: usize, j: usize) -> bool
-    requires { Ready words.old n × (k < n) × Apt x × Apt y × (i < 384) × (j < 384) }
-    ensures { EntryRan x y i j k words.old words.new result }
-{
-    let kinds = words[65537 + 4 * k];
-    if sets::has(kinds, 4 * x.kids + y.kids) {
-        let f = pair_frames::frame_at(words[65536 + 4 * k] as usize);
-        let from = words[65538 + 4 * k] as usize;
-        let end = words[65539 + 4 * k] as usize;
         return pair_tables::add(words, f, x, y, i, j, from, end);
     }
     true
@@ -90,13 +65,10 @@ fn meet(words: &mut [u64], n: usize, x: Node, y: Node, i: usize, j: usize) -> bo
     requires { Ready words.old n × Apt x × Apt y × (i < 384) × (j < 384) }
     ensures { MetRan x y i j n words.old words.new result }
 {
-    let kind = 4 * x.kids + y.kids;
     let mut still = true;
-    let mut k = next_entry(words, n, kind, 0);
-    while k < n {
-        let had = step_entry(words, k, n, x, y, i, j);
-        still = both(still, had);
-        k = next_entry(words, n, kind, k + 1);
+    for k in 0..n {
+        let had = step_entry::<true>(words, k, n, x, y, i, j);
+        still &= had;
     }
     still
 }
@@ -123,11 +95,9 @@ fn cells(nodes: &[u64], words: &mut [u64], n: usize, x: Node, i: usize) -> bool
     ensures { RowRan nodes.now i n words.old words.new result }
 {
     let mut still = true;
-    let mut m: usize = 0;
-    while m < 384 {
-        let had = cell(nodes, words, n, x, i, 383 - m);
-        still = both(still, had);
-        m += 1;
+    for j in (0..SHAPES).rev() {
+        let had = cell(nodes, words, n, x, i, j);
+        still &= had;
     }
     still
 }
@@ -150,11 +120,9 @@ fn pass(nodes: &[u64], words: &mut [u64], n: usize) -> bool
     ensures { RowsRan nodes.now n words.old words.new result }
 {
     let mut still = true;
-    let mut k: usize = 0;
-    while k < 384 {
-        let had = row(nodes, words, n, 383 - k);
-        still = both(still, had);
-        k += 1;
+    for k in (0..SHAPES).rev() {
+        let had = row(nodes, words, n, k);
+        still &= had;
     }
     still
 }
@@ -164,7 +132,7 @@ fn kid_bits(x: Node) -> u64
     requires { Small x }
 {
     if x.kids == 0 {
-        return 18446744073709551615;
+        return u64::MAX;
     }
     let one = sets::with(0, x.first);
     if x.kids == 1 {
@@ -173,64 +141,55 @@ fn kid_bits(x: Node) -> u64
     sets::with(one, x.second)
 }
 
-// The nonterminals with which the words of a shape of the nonterminal `a`, or behind these of `a`
-// itself, changed in this pass, or in the one before at the node `i` or after it.
-fn changed(marks: &[u64; MARKS], at: usize, a: u8, i: usize) -> u64
-    requires { (at < 448) × (a < 64) }
+// The nonterminals with which the words of a shape `j` of the nonterminal `a` changed in this pass,
+// or in the one before at the node `i` or after it.
+fn changed(g: &Guess, j: usize, a: u8, i: usize) -> u64
+    requires { (j < 384) × (a < 64) }
 {
-    let last = marks[960 + a as usize];
-    if last <= i as u64 {
-        return marks[at] | marks[512 + at];
+    if g.before.lasts[a as usize] <= i as u64 {
+        return g.now.shapes[j] | g.before.shapes[j];
     }
-    marks[at]
+    g.now.shapes[j]
 }
 
-// The same of a nonterminal.
-fn changed_sort(marks: &[u64; MARKS], a: u8, i: usize) -> u64
+// The same of the nonterminal's own words.
+fn changed_sort(g: &Guess, a: u8, i: usize) -> u64
     requires { a < 64 }
 {
-    changed(marks, 384 + a as usize, a, i)
+    if g.before.lasts[a as usize] <= i as u64 {
+        return g.now.sorts[a as usize] | g.before.sorts[a as usize];
+    }
+    g.now.sorts[a as usize]
 }
 
 // Has a word changed that steps of the nodes `i` and `j` read, since they were made?
-fn touched(marks: &[u64; MARKS], x: Node, y: Node, i: usize, j: usize) -> bool
+fn touched(g: &Guess, x: Node, y: Node, i: usize, j: usize) -> bool
     requires { Small x × Small y × (i < 384) × (j < 384) }
 {
     let kx = kid_bits(x);
     let ky = kid_bits(y);
-    let a = changed(marks, i, x.sort, i) | changed_sort(marks, x.sort, i);
-    let b = changed(marks, j, y.sort, i) | changed_sort(marks, y.sort, i);
-    let c = changed_sort(marks, x.first, i) | changed_sort(marks, x.second, i);
+    let a = changed(g, i, x.sort, i) | changed_sort(g, x.sort, i);
+    let b = changed(g, j, y.sort, i) | changed_sort(g, y.sort, i);
+    let c = changed_sort(g, x.first, i) | changed_sort(g, x.second, i);
     ((a | c) & ky) | (b & kx) != 0
 }
 
 // Marks the words of the shape `j` and its nonterminal `a` with the nonterminal `b`, at the node
 // `i`.
-fn mark(marks: &mut [u64; MARKS], j: usize, a: u8, b: u8, i: usize)
+fn mark(g: &mut Guess, j: usize, a: u8, b: u8, i: usize)
     requires { (j < 384) × (a < 64) × (b < 64) × (i < 384) }
 {
-    marks[j] = sets::with(marks[j], b);
-    let n = 384 + a as usize;
-    marks[n] = sets::with(marks[n], b);
-    marks[64 + n] = i as u64;
+    g.now.shapes[j] = sets::with(g.now.shapes[j], b);
+    g.now.sorts[a as usize] = sets::with(g.now.sorts[a as usize], b);
+    g.now.lasts[a as usize] = i as u64;
 }
 
-// Makes the marks of this pass those of the one before.
-fn age(marks: &mut [u64; MARKS]) {
-    let mut n: usize = 0;
-    while n < 512 {
-        marks[512 + n] = marks[n];
-        marks[n] = 0;
-        n += 1;
-    }
-}
-
-// Marks all as changed in the pass before.
-fn mark_all(marks: &mut [u64; MARKS]) {
-    let mut n: usize = 512;
-    while n < 960 {
-        marks[n] = 18446744073709551615;
-        n += 1;
+// These changes of all shapes and nonterminals, at the first node.
+fn all_changed(with: u64) -> Changes {
+    Changes {
+        shapes: [with; SHAPES],
+        sorts: [with; 64],
+        lasts: [0; 64],
     }
 }
 
@@ -250,9 +209,9 @@ fn step_both(
     requires k_lt_n { (k < n) × (l < n) }
     ensures { SomeRan x y i j words.old words.new result }
 {
-    let one = add_entry(words, k, n, x, y, i, j);
-    let two = add_entry(words, l, n, y, x, j, i);
-    both(one, two)
+    let one = step_entry::<false>(words, k, n, x, y, i, j);
+    let two = step_entry::<false>(words, l, n, y, x, j, i);
+    one & two
 }
 
 // The same for the entries of a hint, if it says that they might add something.
@@ -272,12 +231,8 @@ fn hinted(
 {
     let k = (places >> 48) as usize % 256;
     let l = (places >> 56) as usize;
-    if k < n {
-        if l < n {
-            if pair_hints::might_add(words, x, y, i, j, w, places, flags) {
-                return step_both(words, k, l, n, x, y, i, j);
-            }
-        }
+    if k < n && l < n && pair_hints::might_add(words, x, y, i, j, w, places, flags) {
+        return step_both(words, k, l, n, x, y, i, j);
     }
     true
 }
@@ -298,13 +253,15 @@ fn quick_meet(
 {
     let w = pair_hints::open_words(pair_tables::words_of(words, x, y, i, j));
     let kind = 4 * x.kids + y.kids;
+    let from = pair_hints::hints_from(hints, kind);
     let end = pair_hints::hints_end(hints, kind);
     let mut still = true;
-    let mut at = pair_hints::next_hint(hints, w, pair_hints::hints_from(hints, kind), end);
-    while at < end {
+    for at in (from..end).step_by(2) {
+        if !pair_hints::may_stand(w, hints[at]) {
+            continue;
+        }
         let had = hinted(words, n, x, y, i, j, w, hints[at], hints[at + 1]);
-        still = both(still, had);
-        at = pair_hints::next_hint(hints, w, at + 2, end);
+        still &= had;
     }
     still
 }
@@ -314,8 +271,7 @@ fn quick_meet(
 fn quick_cell(
     nodes: &[u64],
     words: &mut [u64],
-    hints: &[u64; HINTS],
-    marks: &mut [u64; MARKS],
+    g: &mut Guess,
     n: usize,
     x: Node,
     i: usize,
@@ -329,77 +285,52 @@ fn quick_cell(
         return true;
     }
     let y = pair_nodes::node_at(nodes, j);
-    if !touched(marks, x, y, i, j) {
+    if !touched(g, x, y, i, j) {
         return true;
     }
-    if quick_meet(words, hints, n, x, y, i, j) {
+    if quick_meet(words, &g.hints, n, x, y, i, j) {
         return true;
     }
-    mark(marks, i, x.sort, y.sort, i);
-    mark(marks, j, y.sort, x.sort, i);
+    mark(g, i, x.sort, y.sort, i);
+    mark(g, j, y.sort, x.sort, i);
     false
 }
 
 // The same of the node `x` and the nodes up to it, the last first.
-fn quick_cells(
-    nodes: &[u64],
-    words: &mut [u64],
-    hints: &[u64; HINTS],
-    marks: &mut [u64; MARKS],
-    n: usize,
-    x: Node,
-    i: usize,
-) -> bool
+fn quick_cells(nodes: &[u64], words: &mut [u64], g: &mut Guess, n: usize, x: Node, i: usize) -> bool
     requires ready { Ready words.old n × (1536 ≤ length nodes.now) × (i < 384) }
     requires present { Present nodes.now i × (x ≡ node_at nodes.now i) × Small x }
     ensures { Quick nodes.now words.old words.new result }
 {
     let mut still = true;
-    let mut m: usize = 0;
-    while m <= i {
-        let had = quick_cell(nodes, words, hints, marks, n, x, i, i - m);
-        still = both(still, had);
-        m += 1;
+    for j in (0..i + 1).rev() {
+        let had = quick_cell(nodes, words, g, n, x, i, j);
+        still &= had;
     }
     still
 }
 
 // The same of the node `i`, if there is one.
-fn quick_row(
-    nodes: &[u64],
-    words: &mut [u64],
-    hints: &[u64; HINTS],
-    marks: &mut [u64; MARKS],
-    n: usize,
-    i: usize,
-) -> bool
+fn quick_row(nodes: &[u64], words: &mut [u64], g: &mut Guess, n: usize, i: usize) -> bool
     requires { Ready words.old n × (1536 ≤ length nodes.now) × (i < 384) }
     ensures { Quick nodes.now words.old words.new result }
 {
     if pair_nodes::present(nodes, i) {
         let x = pair_nodes::node_at(nodes, i);
-        return quick_cells(nodes, words, hints, marks, n, x, i);
+        return quick_cells(nodes, words, g, n, x, i);
     }
     true
 }
 
 // A pass over each two nodes once that leaves out those that read no word that has changed.
-fn quick_pass(
-    nodes: &[u64],
-    words: &mut [u64],
-    hints: &[u64; HINTS],
-    marks: &mut [u64; MARKS],
-    n: usize,
-) -> bool
+fn quick_pass(nodes: &[u64], words: &mut [u64], g: &mut Guess, n: usize) -> bool
     requires { Ready words.old n × (1536 ≤ length nodes.now) }
     ensures { Quick nodes.now words.old words.new result }
 {
     let mut still = true;
-    let mut m: usize = 0;
-    while m < 384 {
-        let had = quick_row(nodes, words, hints, marks, n, 383 - m);
-        still = both(still, had);
-        m += 1;
+    for i in (0..SHAPES).rev() {
+        let had = quick_row(nodes, words, g, n, i);
+        still &= had;
     }
     still
 }
@@ -409,18 +340,21 @@ fn quick(nodes: &[u64], words: &mut [u64], n: usize) -> bool
     requires { Ready words.old n × (1536 ≤ length nodes.now) }
     ensures { Quick nodes.now words.old words.new result }
 {
-    let mut hints = [0u64; HINTS];
-    pair_hints::list_hints(words, n, &mut hints);
-    let mut marks = [0u64; MARKS];
-    mark_all(&mut marks);
+    let mut g = Guess {
+        hints: [0; HINTS],
+        now: all_changed(0),
+        before: all_changed(u64::MAX),
+    };
+    pair_hints::list_hints(words, n, &mut g.hints);
     let mut still = true;
     loop {
-        let had = quick_pass(nodes, words, &hints, &mut marks, n);
+        let had = quick_pass(nodes, words, &mut g, n);
         if had {
             return still;
         }
         still = false;
-        age(&mut marks);
+        g.before = g.now;
+        g.now = all_changed(0);
     }
 }
 
@@ -445,7 +379,7 @@ fn settle(nodes: &[u64], words: &mut [u64], n: usize) -> bool
 {
     let one = quick(nodes, words, n);
     let two = passes(nodes, words, n);
-    both(one, two)
+    one & two
 }
 
 // Is the table settled for the frames entered up to now? With the first of them it is; with others
@@ -456,7 +390,7 @@ fn both_settled(p: usize, still: bool, had: bool) -> bool
     if p == 0 {
         return true;
     }
-    both(still, had)
+    still & had
 }
 
 // Settles the table for all frames, entered as many at a time as there is room for. Is it?
@@ -492,6 +426,6 @@ pub fn fill_table(nodes: &[u64], words: &mut [u64])
     requires { (search_words ≤ length words.old) × (1536 ≤ length nodes.now) }
     ensures { FilledTable nodes.now words.old words.new }
 {
-    clear(words);
+    spans::clear(words, WORDS);
     search(nodes, words);
 }

@@ -15,10 +15,22 @@ ghost use Rattle.pair_steps.specs.Tokens.{TokensFound};
 use grammar::{BinaryMark, UnaryMark};
 use pair_offsets::{Frame, Masks};
 
+// How many shapes have numbers: for each of 128 rules the three kinds.
+pub const SHAPES: usize = 384;
+
+// The table of the search: for each shape a word for each of 64 nonterminals, then a word for each
+// two nonterminals, then nine words of terminals for each two. The entries stand behind it.
+pub const SORT_WORDS: usize = 64 * SHAPES;
+
+pub const NEXT_WORDS: usize = SORT_WORDS + 64 * 64;
+
+pub const ENTRIES: usize = NEXT_WORDS + 9 * 64 * 64;
+
 // A node that has tokens: how many children with tokens it has, its nonterminal and theirs; the
 // offsets that it allows its start and a start inside, its start and its cut, and a start before
 // its cut and the cut; the terminals that may stand at its start, and at its cut if it has two
 // children.
+// Kept: `kids` is a number, since two of them make the bit of an entry's word, 4 kids + kids.
 #[derive(Clone, Copy)]
 pub struct Node {
     pub kids: u8,
@@ -300,7 +312,7 @@ fn at_stop(m: u64, a: u8, b: u8, c: u8, d: u8, r: u8, set: u64) -> u64
 fn begins_left(f: Frame, x: Node, y: Node, r: u8) -> u64
     ensures { Narrowed all_terminals (BeginsLeave f x y r) result }
 {
-    let m1 = at_place(18446744073709551615, f.start, r, x.begin);
+    let m1 = at_place(u64::MAX, f.start, r, x.begin);
     let m2 = at_cut(m1, x.kids, f.cut, r, x.next);
     let m3 = at_place(m2, f.begin, r, y.begin);
     at_cut(m3, y.kids, f.split, r, y.next)

@@ -9,7 +9,7 @@ ghost use Rattle.pair_tables.specs.Stepping.{Joined, Put, relation_bits, next_pl
 ghost use Rattle.pair_tables.specs.Stepping.{HasSays, Stepped};
 
 use pair_offsets::Frame;
-use pair_steps::{Node, Words};
+use pair_steps::{NEXT_WORDS, Node, SORT_WORDS, Words};
 
 // The word of a shape and a nonterminal.
 fn shape_word(t: &[u64], i: usize, b: u8) -> u64
@@ -24,7 +24,7 @@ fn sort_word(t: &[u64], a: u8, b: u8) -> u64
     requires { Room t.now × (a < 64) × (b < 64) }
     ensures { result ≡ sort_word t.now a b }
 {
-    t[24576 + (64 * (a as usize) + b as usize)]
+    t[SORT_WORDS + (64 * (a as usize) + b as usize)]
 }
 
 // The word of terminals of two nonterminals, with pieces from `p` to `q` and from `o` to `e`.
@@ -34,7 +34,7 @@ fn next_word(t: &[u64], a: u8, b: u8, p: u8, q: u8, o: u8, e: u8) -> u64
 {
     let c = pair_steps::order_code(p, o) as usize;
     let d = pair_steps::order_code(q, e) as usize;
-    t[28672 + (9 * (64 * (a as usize) + b as usize) + (3 * c + d))]
+    t[NEXT_WORDS + (9 * (64 * (a as usize) + b as usize) + (3 * c + d))]
 }
 
 // The words of relations of two nodes, whose shapes have the numbers `i` and `j`.
@@ -110,12 +110,7 @@ fn put(t: &mut [u64], a: usize, b: usize, c: usize, bits: u64, set: u64) -> bool
     let x = join(t, a, bits);
     let y = join(t, b, bits);
     let z = join(t, c, set);
-    if x {
-        if y {
-            return z;
-        }
-    }
-    false
+    x & y & z
 }
 
 // The offsets of the two starts, as bits of the word of relations with these orders.
@@ -134,7 +129,7 @@ fn next_place(f: Frame, a: u8, b: u8) -> usize
 {
     let o = pair_steps::order_code(f.start, f.begin) as usize;
     let p = pair_steps::order_code(f.stop, f.end) as usize;
-    28672 + (9 * (64 * (a as usize) + b as usize) + (3 * o + p))
+    NEXT_WORDS + (9 * (64 * (a as usize) + b as usize) + (3 * o + p))
 }
 
 // Has the table the offsets `m` of the two starts, and all terminals that may stand at the stop
@@ -186,7 +181,7 @@ pub fn add(
     let c = next_place(f, x.sort, y.sort);
     let a = x.sort as usize;
     let b = y.sort as usize;
-    put(t, 64 * i + b, 24576 + (64 * a + b), c, bits, q)
+    put(t, 64 * i + b, SORT_WORDS + (64 * a + b), c, bits, q)
 }
 
 // The same, where it is first asked whether there is anything to put.

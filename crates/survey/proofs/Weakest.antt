@@ -1,5 +1,6 @@
 -- The level of a nonterminal is the weakest mark that it inherits.
 use mathlib.Core.Path.{◌≡◌, refl, sym, ap, ◌∙◌, subst}
+use Rattle.std.specs.Prelude.{Some, None}
 use Prim.Native.Nat.{ℕ, zero, suc, ◌≤◌}
 use native.Mathlib.Omega.{arith}
 use Rattle.sets.specs.Sets.{In}
@@ -9,7 +10,6 @@ use Rattle.acyclic.specs.Exact.{Exactly}
 use Rattle.pairs.specs.Survey.{Inherits}
 use Rattle.pairs.specs.Strength.{rank}
 use Rattle.survey.specs.declared.Levels.{Levels}
-use Rattle.survey.specs.declared.Level.{Level}
 use Rattle.survey.specs.Closing.{AtMost, LevelsOf, LevelIs, Weakest}
 use Rattle.survey.proofs.Sources.{in_three}
 
@@ -42,7 +42,7 @@ same {g} {A} m t h =
     subst (Inherits g A) (sym (unrank_rank t.mark) ∙ ap unrank e ∙ unrank_rank m) t.inherits
 
 module _ {g : Rules} {l : Levels} (x : LevelsOf g l) where
-  pub level_weakest : (A : ℕ) (m : UnaryMark) → LevelIs l A (Level.Keeps m) → Weakest g A m
+  pub level_weakest : (A : ℕ) (m : UnaryMark) → LevelIs l A (Some m) → Weakest g A m
   level_weakest A UnaryMark.None i =
       let t = x.unmarked.is A i in
       record { inherits = same UnaryMark.None t (omega arith); least = λ k j. omega arith }
@@ -59,5 +59,5 @@ module _ {g : Rules} {l : Levels} (x : LevelsOf g l) where
       let a = above 2 x.offside n in
       record { inherits = same UnaryMark.Single t (a t.mark t.inherits); least = a }
 
-  pub level_nothing : (A : ℕ) → LevelIs l A Level.Nothing → (m : UnaryMark) → Inherits g A m → ⊥
+  pub level_nothing : (A : ℕ) → LevelIs l A None → (m : UnaryMark) → Inherits g A m → ⊥
   level_nothing A n m i = n (x.single.all A (record { mark = m; inherits = i; low = in_three m }))

@@ -1,5 +1,5 @@
 -- What the search for a set of nonterminals is for, and what it finds.
-use Rattle.std.specs.Prelude.{ℕ, ◌≤◌, ◌⊎◌}
+use Rattle.std.specs.Prelude.{ℕ, ◌≤◌, ◌⊎◌, Option, Some, None}
 use mathlib.Core.List.{Memᴰ}
 use Rattle.sets.specs.Sets.{In}
 use Rattle.grammar.specs.declared.UnaryMark.{UnaryMark}
@@ -7,7 +7,6 @@ use Rattle.grammar.specs.declared.Rule.{Rule}
 use Rattle.grammar.specs.Trees.{Rules}
 use Rattle.acyclic.specs.Exact.{Exactly}
 use Rattle.survey.specs.declared.Levels.{Levels}
-use Rattle.survey.specs.declared.Level.{Level}
 use Rattle.survey.specs.declared.Aim.{Aim}
 use Rattle.pairs.specs.Survey.{Productive, Occurs, Inherits, CanBegin, onward_mark}
 use Rattle.pairs.specs.Strength.{rank}
@@ -59,12 +58,12 @@ pub record LevelsOf (g : Rules) (l : Levels) : Type 0 where
   pub single : Exactly l.single (AtMost g 3)
 
 -- of these sets the first that has A
-abbrev pub LevelIs : Levels → ℕ → Level → Type 0
-LevelIs l A (Level.Keeps UnaryMark.None) = In l.unmarked A
-LevelIs l A (Level.Keeps UnaryMark.Offalign) = (In l.unmarked A → ⊥) × In l.offalign A
-LevelIs l A (Level.Keeps UnaryMark.Offside) = (In l.offalign A → ⊥) × In l.offside A
-LevelIs l A (Level.Keeps UnaryMark.Single) = (In l.offside A → ⊥) × In l.single A
-LevelIs l A Level.Nothing = In l.single A → ⊥
+abbrev pub LevelIs : Levels → ℕ → Option UnaryMark → Type 0
+LevelIs l A (Some UnaryMark.None) = In l.unmarked A
+LevelIs l A (Some UnaryMark.Offalign) = (In l.unmarked A → ⊥) × In l.offalign A
+LevelIs l A (Some UnaryMark.Offside) = (In l.offalign A → ⊥) × In l.offside A
+LevelIs l A (Some UnaryMark.Single) = (In l.offside A → ⊥) × In l.single A
+LevelIs l A None = In l.single A → ⊥
 
 -- the weakest mark that A inherits
 pub record Weakest (g : Rules) (A : ℕ) (m : UnaryMark) : Type 0 where

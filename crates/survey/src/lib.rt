@@ -33,15 +33,6 @@ pub enum Aim {
     Heads(u8, u64),
 }
 
-fn both(x: bool, y: bool) -> bool
-    ensures { result ≡ (x && y) }
-{
-    if x {
-        return y;
-    }
-    false
-}
-
 // Has the nonterminal a word?
 fn worded(nulls: u64, prods: u64, a: u8) -> bool
     requires { a < 64 }
@@ -74,8 +65,8 @@ fn one_part(nulls: u64, prods: u64, set: u64, b: u8, d: u8) -> bool
     let rest = worded(nulls, prods, d);
     let empty = sets::has(nulls, b);
     let second = sets::has(set, d);
-    let one = both(first, rest);
-    let other = both(empty, second);
+    let one = first & rest;
+    let other = empty & second;
     either(one, other)
 }
 
@@ -96,10 +87,7 @@ fn filled(nulls: u64, set: u64, c: Clause) -> bool
 fn covers(a: u8, b: u8, x: u8) -> bool
     ensures { Says result (Covers a b x) }
 {
-    if a <= x {
-        return x <= b;
-    }
-    false
+    a <= x && x <= b
 }
 
 // Has the clause a word that begins with x, where the members have?
@@ -133,7 +121,7 @@ fn with_both(nulls: u64, prods: u64, set: u64, b: u8, d: u8) -> u64
 {
     let first = worded(nulls, prods, b);
     let second = worded(nulls, prods, d);
-    let yes = both(first, second);
+    let yes = first & second;
     let one = with_if(yes, set, b);
     with_if(yes, one, d)
 }
@@ -175,7 +163,7 @@ fn with_child(prods: u64, k: u8, set: u64, b: u8, m: UnaryMark) -> u64
     let rank = rank_of(m);
     let some = sets::has(prods, b);
     let weak = rank <= k;
-    let yes = both(some, weak);
+    let yes = some & weak;
     with_if(yes, set, b)
 }
 
@@ -188,8 +176,8 @@ fn with_front(nulls: u64, prods: u64, set: u64, b: u8, d: u8) -> u64
     let rest = worded(nulls, prods, d);
     let empty = sets::has(nulls, b);
     let second = sets::has(prods, d);
-    let begins = both(some, rest);
-    let alone = both(empty, second);
+    let begins = some & rest;
+    let alone = empty & second;
     let one = with_if(begins, set, b);
     with_if(alone, one, d)
 }
@@ -214,7 +202,7 @@ fn with_second(prods: u64, set: u64, b: u8, d: u8) -> u64
 {
     let first = sets::has(prods, b);
     let second = sets::has(prods, d);
-    let yes = both(first, second);
+    let yes = first & second;
     with_if(yes, set, d)
 }
 
@@ -316,16 +304,15 @@ fn pass(g: Grammar, aim: Aim, nulls: u64, prods: u64, set: u64) -> u64
 {
     let count = g.count;
     let mut next = set;
-    let mut p: usize = 0;
-    while p < count {
+    for p in 0..count {
         let rule = g.rules[p];
         next = grow(aim, nulls, prods, next, rule);
-        p += 1;
     }
     next
 }
 
 // Passes until one adds nothing.
+// Kept: `acyclic::closed` would ask that the laws of all four aims, 300 lines, stand in specs/.
 fn close(g: Grammar, aim: Aim, nulls: u64, prods: u64) -> u64
     requires { Formed g × Exactly nulls (Nullable (rules_of g)) × Prepared (rules_of g) aim prods }
     ensures { Shut (AddsBy aim nulls prods) (Aimed (rules_of g) aim) (rules_of g) result }
@@ -407,28 +394,22 @@ pub fn inherited(g: Grammar, nulls: u64, prods: u64) -> Levels
     }
 }
 
-// The weakest mark that a nonterminal inherits.
-#[derive(Clone, Copy)]
-pub enum Level {
-    Keeps(UnaryMark),
-    Nothing,
-}
-
-pub fn level_of(l: Levels, a: u8) -> Level
+// The weakest mark that a nonterminal inherits, if it inherits one.
+pub fn level_of(l: Levels, a: u8) -> Option<UnaryMark>
     requires { a < 64 }
     ensures { LevelIs l a result }
 {
     if sets::has(l.unmarked, a) {
-        return Level::Keeps(UnaryMark::None);
+        return Some(UnaryMark::None);
     }
     if sets::has(l.offalign, a) {
-        return Level::Keeps(UnaryMark::Offalign);
+        return Some(UnaryMark::Offalign);
     }
     if sets::has(l.offside, a) {
-        return Level::Keeps(UnaryMark::Offside);
+        return Some(UnaryMark::Offside);
     }
     if sets::has(l.single, a) {
-        return Level::Keeps(UnaryMark::Single);
+        return Some(UnaryMark::Single);
     }
-    Level::Nothing
+    None
 }

@@ -14,9 +14,6 @@ list_left-k-requires c = record {
   count_le_at = c.loop-a.invariant.1.few;
 }
 
-pub overflow_add-a : goal.overflow_add-a
-overflow_add-a c = omega (arith, c.loop-a-test.true)
-
 pub loop-a-smaller : goal.loop-a-smaller
 loop-a-smaller c = omega (arith, c.loop-a-test.true)
 

@@ -1,6 +1,6 @@
 -- `doubt_list::list_all` meets its contract. The loop's invariant: the nonterminals before a were
 -- looked at.
-use Prim.Native.Nat.{◌-◌, ◌≤◌}
+use Prim.Native.Nat.{◌≤◌}
 use Rattle.grammar.specs.Content.{rules_of}
 use Rattle.doubt_list.specs.Steps.{at, Lists}
 use Rattle.doubt_list.proofs.list_all.Given as goal
@@ -9,6 +9,3 @@ abbrev pub invariant-loop-a : goal.invariant-loop-a
 invariant-loop-a l =
     (l.a ≤ 64) × Lists (rules_of l.g) l.initial.list l.list l.initial.k l.k (at 0 0 0 0)
     (at l.a 0 0 0)
-
-abbrev pub decreases-loop-a : goal.decreases-loop-a
-decreases-loop-a l = 64 - l.a

@@ -3,9 +3,6 @@ use Rattle.doubt_list.proofs.ListLaws.{lists_none, lists_then}
 use Rattle.doubt_list.proofs.Going.{skip_places}
 use Rattle.doubt_list.proofs.list_behind.Goals as goal
 
-pub overflow_add-q : goal.overflow_add-q
-overflow_add-q c = omega (arith, c.requires.a_bound.1, c.requires.grounded.formed.few)
-
 pub loop-q-init : goal.loop-q-init
 loop-q-init c = (
   omega arith,
@@ -22,10 +19,6 @@ list_pair-k-requires c =
       a_bound = (c.requires.a_bound.0, i.0, c.loop-q-test.true, c.requires.a_bound.2);
       count_le_at = i.2.few;
     }
-
-pub overflow_add-q-in-loop-q : goal.overflow_add-q-in-loop-q
-overflow_add-q-in-loop-q c =
-    omega (arith, c.loop-q-test.true, c.requires.grounded.formed.few)
 
 pub loop-q-smaller : goal.loop-q-smaller
 loop-q-smaller c = omega (arith, c.loop-q-test.true)

@@ -10,14 +10,6 @@ loop-p-init c =
 pub of_left-requires : goal.of_left-requires
 of_left-requires c = (c.requires.grounded.formed, c.loop-p-test.true)
 
-pub overflow_add-p : goal.overflow_add-p
-overflow_add-p c =
-    omega (
-      arith,
-      c.loop-p-test.true,
-      c.requires.grounded.formed.few,
-    )
-
 pub loop-p-smaller-then-not-of_left : goal.loop-p-smaller-then-not-of_left
 loop-p-smaller-then-not-of_left c = omega (arith, c.loop-p-test.true)
 
@@ -39,14 +31,6 @@ list_rule-k-requires c =
       a_bound = (c.requires.a_bound, c.loop-p-test.true, r);
       count_le_at = c.loop-p.invariant.1.few;
     }
-
-pub overflow_add-p-in-loop-p : goal.overflow_add-p-in-loop-p
-overflow_add-p-in-loop-p c =
-    omega (
-      arith,
-      c.loop-p-test.true,
-      c.requires.grounded.formed.few,
-    )
 
 pub loop-p-smaller : goal.loop-p-smaller
 loop-p-smaller c = omega (arith, c.loop-p-test.true)

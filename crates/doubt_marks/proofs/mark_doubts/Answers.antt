@@ -9,7 +9,7 @@ returns c =
     let k = c.clear.ensures in
     marks_for {zero = replicate 768 0}
     (record { blank = λ n l. get_or-replicate 768 n 0 0 (omega (arith, l)) })
-    c.selves.ensures
+    c.over_span.ensures
     c.seen_by-seen.ensures
     (record { blank = λ n l. k.zeros n (omega (arith, l)) }) k.past.long
-    c.mark_frames.ensures c.requires.in_bounds_2
+    c.over_span-2.ensures c.requires

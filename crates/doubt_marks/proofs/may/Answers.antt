@@ -25,13 +25,13 @@ returns-then-not-suits c =
 pub stands-requires : goal.stands-requires
 stands-requires c = record {
   room = (
-    c.requires.in_bounds.1,
+    record { room = c.args.t.room },
     c.node_at-x.ensures.1,
     c.node_at-y.ensures.1,
-    c.requires.in_bounds.2,
-    c.requires.in_bounds.3,
+    c.requires.in_bounds.0,
+    c.requires.in_bounds.1,
   );
-  end_in_bounds = c.requires.end_in_bounds;
+  evens = c.requires.evens;
 }
 
 pub returns : goal.returns

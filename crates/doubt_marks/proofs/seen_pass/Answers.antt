@@ -11,9 +11,6 @@ pub with_children-next-requires : goal.with_children-next-requires
 with_children-next-requires c =
     let l = c.loop-i-test.true in (c.requires.0, c.requires.1, omega (arith, l))
 
-pub overflow_add-i : goal.overflow_add-i
-overflow_add-i c = omega (arith, c.loop-i-test.true)
-
 pub loop-i-smaller : goal.loop-i-smaller
 loop-i-smaller c = omega (arith, c.loop-i-test.true)
 

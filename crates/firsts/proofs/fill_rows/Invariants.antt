@@ -1,7 +1,7 @@
 -- `firsts::fill_rows` meets its contract. The loop's invariant: the rows of the nonterminals below
 -- a stand.
 use mathlib.Core.Path.{◌≡◌}
-use Prim.Native.Nat.{◌-◌, ◌≤◌}
+use Prim.Native.Nat.{◌≤◌}
 use lib.ListN.{length}
 use Rattle.firsts.specs.Rows.{TakesRows}
 use Rattle.firsts.proofs.fill_rows.Given as goal
@@ -9,6 +9,3 @@ use Rattle.firsts.proofs.fill_rows.Given as goal
 abbrev pub invariant-loop-a : goal.invariant-loop-a
 invariant-loop-a l =
     (l.a ≤ 64) × (length l.out ≡ length l.initial.out) × TakesRows l.columns l.a l.out
-
-abbrev pub decreases-loop-a : goal.decreases-loop-a
-decreases-loop-a l = 64 - l.a

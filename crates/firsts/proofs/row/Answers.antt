@@ -1,6 +1,7 @@
 use mathlib.Core.Path.{◌≡◌}
 use native.Mathlib.Omega.{arith}
 use Rattle.firsts.proofs.RowLaws.{row_none, row_skip, row_with}
+use Rattle.firsts.proofs.row.Goals.{then-has, else-has}
 use Rattle.firsts.proofs.row.Goals as goal
 
 pub loop-x-init : goal.loop-x-init
@@ -16,19 +17,16 @@ bounds-columns-x c =
 pub has-requires : goal.has-requires
 has-requires c = c.requires.0
 
-pub loop-x-preserved-then-not-has : goal.loop-x-preserved-then-not-has
-loop-x-preserved-then-not-has c = (
-  omega arith,
-  row_skip c.loop-x.invariant.1
-      (c.has.ensures.isnt c.if-not-has.true),
-)
-
 pub loop-x-preserved : goal.loop-x-preserved
 loop-x-preserved c = (
   omega arith,
-  rw c.with-set.ensures
-      (row_with c.loop-x.invariant.1
-      (c.has.ensures.is c.if-not-has.false)),
+  elim c.if-has.branch [
+    | then-has w ↦
+        rw (w.set-is, w.with-set.ensures)
+        (row_with c.loop-x.invariant.1 (c.has.ensures.is w.if-has.true))
+    | else-has w ↦
+        rw w.set-is (row_skip c.loop-x.invariant.1 (c.has.ensures.isnt w.if-has.false))
+  ],
 )
 
 pub returns : goal.returns

@@ -21,30 +21,30 @@ rule : (g : Grammar) (p : ℕ) → length g.rules ≡ 128 → Formed g × (p < g
     → get_elem? (rules_of g) p ≡ some (get_or g.rules p blank)
 rule g p e f = rule_at g p blank e f.0.few f.1
 
-pub level_of-level-requires : goal.level_of-level-requires
-level_of-level-requires c = (small_at c.requires.formed.0 _
+pub level_of-requires : goal.level_of-requires
+level_of-requires c = (small_at c.requires.formed.0 _
     (rule c.args.g c.args.p c.well_formed.0.1.1.0.1.0.1 c.requires.formed)).left
 
-pub form_by-requires : goal.form_by-requires
-form_by-requires c =
+pub form_by-looks-requires : goal.form_by-looks-requires
+form_by-looks-requires c =
     (small_at c.requires.formed.0 _
     (rule c.args.g c.args.p c.well_formed.0.1.1.0.1.0.1 c.requires.formed)).clause
 
-pub returns-in-Nothing : goal.returns-in-Nothing
-returns-in-Nothing c =
-    let i = rw c.in-Nothing.is at c.level_of-level.ensures in
+pub returns-in-None : goal.returns-in-None
+returns-in-None c =
+    let i = rw c.in-None.is at c.level_of.ensures in
     shaped_none c.requires.exactly.0 c.requires.exactly.1 c.args.kind c.args.p _
     (rule c.args.g c.args.p c.well_formed.0.1.1.0.1.0.1 c.requires.formed)
     (small_at c.requires.formed.0 _
     (rule c.args.g c.args.p c.well_formed.0.1.1.0.1.0.1 c.requires.formed)).left
     (level_nothing c.requires.exactly.2 _ i)
 
-pub returns-in-Keeps : goal.returns-in-Keeps
-returns-in-Keeps c =
-    let i = rw c.in-Keeps.is at
-    c.level_of-level.ensures in
+pub returns-in-Some : goal.returns-in-Some
+returns-in-Some c =
+    let i = rw c.in-Some.is at
+    c.level_of.ensures in
     shaped_by c.requires.exactly.0 c.requires.exactly.1 c.args.kind c.args.p _
     (rule c.args.g c.args.p c.well_formed.0.1.1.0.1.0.1 c.requires.formed)
     (small_at c.requires.formed.0 _
     (rule c.args.g c.args.p c.well_formed.0.1.1.0.1.0.1 c.requires.formed)).left
-    _ (level_weakest c.requires.exactly.2 _ _ i) c.form_by.result c.form_by.ensures
+    _ (level_weakest c.requires.exactly.2 _ _ i) c.form_by-looks.result c.form_by-looks.ensures

@@ -12,25 +12,26 @@ add_starts-s-requires c =
       le_free = (v.low, v.high);
     }
 
-pub shape_of-words-then-s-eq1296 : goal.shape_of-words-then-s-eq1296
-shape_of-words-then-s-eq1296 c = (prepared c.loop-s.invariant
+pub shape_of-words-then-s-eq-STARTS : goal.shape_of-words-then-s-eq-STARTS
+shape_of-words-then-s-eq-STARTS c = (prepared c.loop-s.invariant
     c.add_starts-s.ensures).same.size
 
-pub returns-then-s-eq1296 : goal.returns-then-s-eq1296
-returns-then-s-eq1296 c = prepared c.loop-s.invariant
+pub returns-then-s-eq-STARTS : goal.returns-then-s-eq-STARTS
+returns-then-s-eq-STARTS c = prepared c.loop-s.invariant
     c.add_starts-s.ensures
 
-pub shape_of-words-then-s-gt220 : goal.shape_of-words-then-s-gt220
-shape_of-words-then-s-gt220 c = (prepared c.loop-s.invariant c.add_starts-s.ensures).same.size
+pub shape_of-words-then-s-gt-FEW : goal.shape_of-words-then-s-gt-FEW
+shape_of-words-then-s-gt-FEW c = (prepared c.loop-s.invariant c.add_starts-s.ensures).same.size
 
-pub returns-then-s-gt220 : goal.returns-then-s-gt220
-returns-then-s-gt220 c = prepared c.loop-s.invariant c.add_starts-s.ensures
+pub returns-then-s-gt-FEW : goal.returns-then-s-gt-FEW
+returns-then-s-gt-FEW c = prepared c.loop-s.invariant c.add_starts-s.ensures
 
-pub shape_of-words-then-s-gt69632 : goal.shape_of-words-then-s-gt69632
-shape_of-words-then-s-gt69632 c = (prepared c.loop-s.invariant c.add_starts-s.ensures).same.size
+pub shape_of-words-then-s-gt-LAST_LIST : goal.shape_of-words-then-s-gt-LAST_LIST
+shape_of-words-then-s-gt-LAST_LIST c =
+    (prepared c.loop-s.invariant c.add_starts-s.ensures).same.size
 
-pub returns-then-s-gt69632 : goal.returns-then-s-gt69632
-returns-then-s-gt69632 c = prepared c.loop-s.invariant c.add_starts-s.ensures
+pub returns-then-s-gt-LAST_LIST : goal.returns-then-s-gt-LAST_LIST
+returns-then-s-gt-LAST_LIST c = prepared c.loop-s.invariant c.add_starts-s.ensures
 
 pub loop-s-smaller : goal.loop-s-smaller
 loop-s-smaller c = omega (
@@ -43,4 +44,4 @@ pub loop-s-preserved : goal.loop-s-preserved
 loop-s-preserved c = prepares (prepared
     c.loop-s.invariant
     c.add_starts-s.ensures)
-    c.if-s-eq1296.false (omega arith) (omega arith)
+    c.if-s-eq-STARTS.false (omega arith) (omega arith)

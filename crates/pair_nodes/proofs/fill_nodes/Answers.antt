@@ -28,9 +28,6 @@ put_shape-requires c =
       in_bounds_2 = (omega (arith, i.1, c.requires.in_bounds), omega (arith, c.loop-i-test.true));
     }
 
-pub overflow_add-i : goal.overflow_add-i
-overflow_add-i c = omega (arith, c.loop-i-test.true)
-
 pub loop-i-smaller : goal.loop-i-smaller
 loop-i-smaller c = omega (arith, c.loop-i-test.true)
 

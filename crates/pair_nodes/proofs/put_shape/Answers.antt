@@ -14,7 +14,7 @@ pub returns-then-p-g : goal.returns-then-p-g
 returns-then-p-g c =
     slot_put c.requires.formed.0 c.head_of-s.result c.requires.in_bounds_2.1
     c.if-p-g.true c.requires.in_bounds.1
-    c.head_of-s.ensures c.put_looks.ensures
+    (rw c.numbered-kind.ensures at c.head_of-s.ensures) c.put_looks.ensures
 
 pub returns : goal.returns
 returns c =

@@ -11,9 +11,10 @@ returns-then-sames c =
           (λ t. t.tris) (c.tris.ensures.says x y z i j k);
     }
 
-pub returns : goal.returns
-returns c =
+pub returns-else-sames : goal.returns-else-sames
+returns-else-sames c =
     record {
       says = λ x y z i j k.
-          fails (λ t. (c.sames.ensures.says x y z i j k).isnt c.if-sames.false t.sames);
+          rw c.if-sames.false
+          (fails (λ t. (c.sames.ensures.says x y z i j k).isnt c.if-sames.false t.sames));
     }

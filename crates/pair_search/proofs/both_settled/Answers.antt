@@ -5,4 +5,4 @@ pub returns-then-p-eq0 : goal.returns-then-p-eq0
 returns-then-p-eq0 c = at_first c.if-p-eq0.true
 
 pub returns : goal.returns
-returns c = rw c.both.ensures later
+returns c = later

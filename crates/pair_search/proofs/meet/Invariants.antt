@@ -1,11 +1,6 @@
-use Prim.Native.Nat.{◌-◌, ◌≤◌}
 use Rattle.pair_search.specs.Running.{PairOf, Ran, Met}
 use Rattle.pair_search.proofs.meet.Given as goal
 
 abbrev pub invariant-loop-k : goal.invariant-loop-k
 invariant-loop-k l =
     Ran (PairOf l.x l.y l.i l.j) (Met l.x l.y l.i l.j l.k) l.initial.words l.words l.still
-    × (l.k ≤ l.n)
-
-abbrev pub decreases-loop-k : goal.decreases-loop-k
-decreases-loop-k l = l.n - l.k

@@ -9,30 +9,30 @@ pub list_hints-requires : goal.list_hints-requires
 list_hints-requires c = let r = c.requires in
     (r.0.room, r.0.few)
 
-pub loop-hints-init : goal.loop-hints-init
-loop-hints-init c = rest_none _ _
+pub loop-g-init : goal.loop-g-init
+loop-g-init c = rest_none _ _
 
 pub quick_pass-had-requires : goal.quick_pass-had-requires
 quick_pass-had-requires c =
     let r = c.requires in
-    (ready_same c.loop-hints.invariant.size c.loop-hints.invariant.past r.0, r.1)
+    (ready_same c.loop-g.invariant.size c.loop-g.invariant.past r.0, r.1)
 
 pub shape_of-words-then-had : goal.shape_of-words-then-had
 shape_of-words-then-had c = c.quick_pass-had.ensures.size
-    ∙ c.loop-hints.invariant.size
+    ∙ c.loop-g.invariant.size
 
 pub returns-then-had : goal.returns-then-had
-returns-then-had c = quick_rested c.loop-hints.invariant
+returns-then-had c = quick_rested c.loop-g.invariant
     c.quick_pass-had.ensures c.if-had.true
 
-pub loop-hints-smaller : goal.loop-hints-smaller
-loop-hints-smaller c =
+pub loop-g-smaller : goal.loop-g-smaller
+loop-g-smaller c =
     rest_less c.quick_pass-had.ensures
     c.if-had.false
-    (record { low = λ i. omega (arith, c.slice_known-in-loop-hints-1.given i) })
+    (record { low = λ i. omega (arith, c.slice_known-in-loop-g-1.given i) })
 
-pub loop-hints-preserved : goal.loop-hints-preserved
-loop-hints-preserved c = rest_more
-    c.loop-hints.invariant
+pub loop-g-preserved : goal.loop-g-preserved
+loop-g-preserved c = rest_more
+    c.loop-g.invariant
     c.quick_pass-had.ensures
     c.if-had.false

@@ -11,6 +11,4 @@ passes-two-requires c =
     )
 
 pub returns : goal.returns
-returns c = rw c.both.ensures
-    (quick_then c.quick-one.ensures
-    c.passes-two.ensures)
+returns c = quick_then c.quick-one.ensures c.passes-two.ensures

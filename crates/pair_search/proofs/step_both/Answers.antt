@@ -1,10 +1,10 @@
 use Rattle.pair_search.proofs.RunLaws.{ran_then, ran_of, ready_same, exchanged}
 use Rattle.pair_search.proofs.step_both.Goals as goal
 
-pub add_entry-two-requires : goal.add_entry-two-requires
-add_entry-two-requires c =
+pub step_entry-two-requires : goal.step_entry-two-requires
+step_entry-two-requires c =
     let r = c.requires in
-    let v = c.add_entry-one.ensures in (
+    let v = c.step_entry-one.ensures in (
       ready_same v.size v.past r.ready.0,
       r.k_lt_n.1,
       r.ready.2,
@@ -15,7 +15,6 @@ add_entry-two-requires c =
 
 pub returns : goal.returns
 returns c =
-    rw c.both.ensures
-    (ran_then {Q = λ t. Unit {0}} (λ p q. tt)
-    c.add_entry-one.ensures
-    (ran_of (λ g h. exchanged h) (λ p. tt) c.add_entry-two.ensures))
+    ran_then {Q = λ t. Unit {0}} (λ p q. tt)
+    c.step_entry-one.ensures
+    (ran_of (λ g h. exchanged h) (λ p. tt) c.step_entry-two.ensures)

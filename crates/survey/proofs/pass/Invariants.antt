@@ -1,5 +1,5 @@
 -- `survey::pass` meets its contract. The loop's invariant: the first p rules were passed.
-use Prim.Native.Nat.{◌-◌, ◌≤◌}
+use Prim.Native.Nat.{◌≤◌}
 use Rattle.grammar.specs.Content.{rules_of}
 use Rattle.acyclic.specs.Passes.{RulesPassed}
 use Rattle.survey.specs.Closing.{Aimed, AddsBy}
@@ -9,6 +9,3 @@ abbrev pub invariant-loop-p : goal.invariant-loop-p
 invariant-loop-p l =
     (l.p ≤ l.count) × RulesPassed (AddsBy l.aim l.nulls l.prods) (Aimed (rules_of l.g) l.aim)
     (rules_of l.g) l.p l.set l.next
-
-abbrev pub decreases-loop-p : goal.decreases-loop-p
-decreases-loop-p l = l.count - l.p
