@@ -13,44 +13,47 @@ use Rattle.grammar.specs.Distinct.{Distinct}
 use Rattle.tree_writer.specs.Written.{Display, in_full_of, rows_of, count_of, filled}
 use Rattle.sheets.specs.declared.Fault.{Fault}
 use Rattle.sheets.proofs.Numbers.{same_fault}
-use Rattle.sheets.specs.declared.Answer.{Answer}
-use Rattle.answering.specs.declared.TreesReply.{TreesReply}
+use Rattle.std.specs.Prelude.{Result}
+use Rattle.sheets.specs.declared.Refusal.{Refusal}
+use Rattle.sheets.specs.Results.{refusal}
+use Rattle.answering.specs.declared.TreeRows.{TreeRows}
+use Rattle.answering.specs.Results.{first_rows, second_rows}
 use Rattle.answering.specs.Answers.{Sheets}
-use Rattle.answering.specs.Trees.{trees_reply_of, Shown, treeless, single, both, large_one}
+use Rattle.answering.specs.Trees.{Shown, treeless, single, both, large_one}
 use Rattle.answering.specs.Trees.{large_two, TreesOn, short, showing, TreesBy, refusing}
 use Rattle.answering.specs.Trees.{reading}
 use Rattle.sheets.proofs.Once.{apart, same_refusal}
 use Rattle.answering.proofs.Settled.{Apart, same_sheets, shown_settled}
 
 -- the same reply, and the same rows, as many as it counts
-abbrev pub SameRows : (m m' n n' : List ℕ) (r s : TreesReply) → Type 0
+abbrev pub SameRows : (m m' n n' : List ℕ) (r s : Result TreeRows Refusal) → Type 0
 SameRows m m' n n' r s = (r ≡ s)
-    × ((take (4 * r.first) m ≡ take (4 * s.first) m')
-    × (take (4 * r.second) n ≡ take (4 * s.second) n'))
+    × ((take (4 * first_rows r) m ≡ take (4 * first_rows s) m')
+    × (take (4 * second_rows r) n ≡ take (4 * second_rows s) n'))
 
-module _ (m m' n n' : List ℕ) {r s : TreesReply} where
+module _ (m m' n n' : List ℕ) {r s : Result TreeRows Refusal} where
   -- the same memories
   pub rows_same : (r ≡ s) × ((m ≡ m') × (n ≡ n')) → SameRows m m' n n' r s
   rows_same e = (
     e.0,
     (
-      λ i. take (4 * (e.0 i).first) (e.1.0 i),
-      λ i. take (4 * (e.0 i).second)
+      λ i. take (4 * first_rows (e.0 i)) (e.1.0 i),
+      λ i. take (4 * second_rows (e.0 i))
           (e.1.1 i),
     ),
   )
 
   -- a refusal counts no row
   pub refusal_rows : {f f' : Fault} {l l' : ℕ} → (f ≡ f') × (l ≡ l')
-      → r ≡ trees_reply_of (Answer.Refused f) l 0 0 → s ≡ trees_reply_of (Answer.Refused f') l' 0 0
+      → r ≡ refusal f l → s ≡ refusal f' l'
       → SameRows m m' n n' r s
   refusal_rows e x y = (
-    x ∙ (λ i. trees_reply_of (Answer.Refused (e.0 i)) (e.1 i) 0 0) ∙ sym y,
+    x ∙ (λ i. refusal (e.0 i) (e.1 i)) ∙ sym y,
     (
-      ap (λ (z : TreesReply). take (4 * z.first) m) x ∙ sym
-          (ap (λ (z : TreesReply). take (4 * z.first) m') y),
-      ap (λ (z : TreesReply). take (4 * z.second) n) x ∙ sym
-          (ap (λ (z : TreesReply). take (4 * z.second) n') y),
+      ap (λ (z : Result TreeRows Refusal). take (4 * first_rows z) m) x ∙ sym
+          (ap (λ (z : Result TreeRows Refusal). take (4 * first_rows z) m') y),
+      ap (λ (z : Result TreeRows Refusal). take (4 * second_rows z) n) x ∙ sym
+          (ap (λ (z : Result TreeRows Refusal). take (4 * second_rows z) n') y),
     ),
   )
 
@@ -61,7 +64,7 @@ filled_moved dis one other e t =
 
 module _ {dis : Display} {g : Rules} {w : Word} {one one₂ two two₂ : List ℕ}
     (e : length one ≡ length one₂) (d : length two ≡ length two₂) where
-  shown_moved : {a c : List ℕ} {r : TreesReply} → Shown dis g w one a two c r
+  shown_moved : {a c : List ℕ} {r : Result TreeRows Refusal} → Shown dis g w one a two c r
       → Shown dis g w one₂ a two₂ c r
   shown_moved (treeless p x h i) =
       treeless p x (h ∙ filled_moved dis one one₂ e none) (i ∙ filled_moved dis two two₂ d none)
@@ -77,7 +80,7 @@ module _ {dis : Display} {g : Rules} {w : Word} {one one₂ two two₂ : List �
 
 module _ {ws vs one one₂ two two₂ : List ℕ} (e : length ws ≡ length vs)
     (d : length one ≡ length one₂) (c : length two ≡ length two₂) {a b m m' n n' : List ℕ}
-    {r s : TreesReply} where
+    {r s : Result TreeRows Refusal} where
   pub trees_on_reply : (dis : Display) (g : Rules) (w : Word) → Distinct g
       → TreesOn dis g w ws a one m two n r → TreesOn dis g w vs b one₂ m' two₂ n' s
       → SameRows m m' n n' r s

@@ -15,8 +15,10 @@ use Rattle.grammar.proofs.ChoiceLaws.{first_witness, second_witness}
 use Rattle.tree_view.specs.Shown.{View, shown_count}
 use Rattle.tree_view.proofs.ShownLaws.{rows_open, count_open, seen_valid}
 use Rattle.tree_writer.specs.Written.{in_full_of, seen_by, filled}
-use Rattle.sheets.specs.declared.Answer.TheVariants as Answer
-use Rattle.answering.specs.declared.TreesReply.{TreesReply}
+use Rattle.std.specs.Prelude.{Result}
+use Rattle.grammar.specs.declared.Verdict.TheVariants as Verdict
+use Rattle.sheets.specs.declared.Refusal.{Refusal}
+use Rattle.answering.specs.declared.TreeRows.{TreeRows}
 use Rattle.answering.specs.Trees.{trees_reply_of, Shown, treeless, single, both, large_one}
 use Rattle.answering.specs.Trees.{large_two, TreesOn, short, showing}
 
@@ -30,18 +32,18 @@ module _ (sees : View) (all : (A : ℕ) → A < 64 → sees A ≡ true) (g : Rul
   filled_is l {t} v = λ i. rows_open sees 0 t (seen_valid sees all g small v) i
       ++ replicate (length l - 4 * count_is v i) 0
 
-  open_shown : {w : Word} {one one' two two' : List ℕ} {r : TreesReply}
+  open_shown : {w : Word} {one one' two two' : List ℕ} {r : Result TreeRows Refusal}
       → Shown (seen_by sees) g w one one' two two' r → Shown in_full_of g w one one' two two' r
   open_shown (treeless p x h i) = treeless p x h i
   open_shown {one = one} (single {t = t} p f l x h i) =
       let v : Valid g t = (first_witness f).valid in
       single p f (omega (arith, count_is v))
-      (x ∙ ap (λ (n : ℕ). trees_reply_of Answer.One 0 n 0) (count_is v)) (h ∙ filled_is one v) i
+      (x ∙ ap (λ (n : ℕ). trees_reply_of Verdict.One n 0) (count_is v)) (h ∙ filled_is one v) i
   open_shown {one = one} {two = two} (both {t = t} {u = u} p f s l m x h i) =
       let v : Valid g t = (first_witness f).valid in
       let z : Valid g u = (second_witness s).valid in
       both p f s (omega (arith, count_is v)) (omega (arith, count_is z))
-      (x ∙ (λ i. trees_reply_of Answer.Two 0 (count_is v i) (count_is z i))) (h ∙ filled_is one v)
+      (x ∙ (λ i. trees_reply_of Verdict.Two (count_is v i) (count_is z i))) (h ∙ filled_is one v)
       (i ∙ filled_is two z)
   open_shown (large_one {t = t} p f l n x h i) = let v : Valid g t = (first_witness f).valid in
       large_one p f (omega (arith, count_is v)) n x h i
@@ -51,7 +53,8 @@ module _ (sees : View) (all : (A : ℕ) → A < 64 → sees A ≡ true) (g : Rul
       large_two p f s (⊎_elim (λ a. inl (omega (arith, count_is v)))
       (λ a. inr (omega (arith, count_is z))) l) n x h i
 
-  pub open_trees : {w : Word} {words words' one one' two two' : List ℕ} {r : TreesReply}
+  pub open_trees : {w : Word} {words words' one one' two two' : List ℕ}
+      {r : Result TreeRows Refusal}
       → TreesOn (seen_by sees) g w words words' one one' two two' r
       → TreesOn in_full_of g w words words' one one' two two' r
   open_trees (short l n x h i j) = short l n x h i j

@@ -8,7 +8,7 @@ use lib.ListN.{length, get_or, replicate, take-append-drop}
 use Rattle.grammar.specs.Layout.{Word}
 use Rattle.grammar.specs.Trees.{Tree, Rules, NoTree, OneTree, TwoTrees}
 use Rattle.grammar.specs.Choices.{FirstTree, SecondTree}
-use Rattle.grammar.proofs.VerdictLaws.{none_not_one, none_not_two, one_not_two}
+use Rattle.grammar.proofs.VerdictLaws.{none_not_one, none_not_two, one_not_two, verdict_same}
 use Rattle.sheets.specs.declared.Fault.{Fault}
 use Rattle.sheets.specs.Refusals.{number_of}
 use Rattle.sheets.proofs.Numbers.{same_fault}
@@ -18,10 +18,12 @@ use Rattle.sheets.specs.RuleSheets.{rule_sheet}
 use Rattle.sheets.specs.TokenSheets.{token_sheet}
 use Rattle.sheets.proofs.Accepted.{rules_good}
 use Rattle.spans.proofs.Uniqueness.{sheet_same}
-use Rattle.sheets.specs.declared.Answer.{Answer}
-use Rattle.answering.specs.declared.Reply.{Reply}
-use Rattle.answering.specs.Answers.{Sheets, with_tokens, with_rules, sheets, AnswerHolds}
-use Rattle.answering.specs.declared.TreesReply.{TreesReply}
+use Rattle.std.specs.Prelude.{Result, Ok}
+use Rattle.grammar.specs.declared.Verdict.{Verdict}
+use Rattle.sheets.specs.declared.Refusal.{Refusal}
+use Rattle.sheets.specs.Results.{refusal}
+use Rattle.answering.specs.Answers.{Sheets, with_tokens, with_rules, sheets}
+use Rattle.answering.specs.declared.TreeRows.{TreeRows}
 use Rattle.answering.specs.Verdict.{needed, SheetFilled, VerdictOn, short, judging, VerdictBy}
 use Rattle.answering.specs.Verdict.{refusing, reading}
 use Rattle.answering.specs.Trees.{trees_reply_of, Shown, treeless, single, both, large_one}
@@ -32,32 +34,7 @@ use mathlib.Core.Option.{none, some}
 use Rattle.grammar.proofs.ChoiceLaws.{first_unique, second_tree_unique}
 use Rattle.grammar.specs.Distinct.{Distinct}
 
--- 1. answers
-
-pub says_one : (g : Rules) (w : Word) (a b : Answer) → AnswerHolds a g w → AnswerHolds b g w → a ≡ b
-says_one g w Answer.None Answer.None x y = refl
-says_one g w Answer.None Answer.One x y = absurd (none_not_one x y)
-says_one g w Answer.None Answer.Two x y = absurd (none_not_two x y)
-says_one g w Answer.One Answer.None x y = absurd (none_not_one y x)
-says_one g w Answer.One Answer.One x y = refl
-says_one g w Answer.One Answer.Two x y = absurd (one_not_two x y)
-says_one g w Answer.Two Answer.None x y = absurd (none_not_two y x)
-says_one g w Answer.Two Answer.One x y = absurd (one_not_two y x)
-says_one g w Answer.Two Answer.Two x y = refl
-says_one g w Answer.None Answer.Clear x y = absurd y
-says_one g w Answer.One Answer.Clear x y = absurd y
-says_one g w Answer.Two Answer.Clear x y = absurd y
-says_one g w Answer.None Answer.Given x y = absurd y
-says_one g w Answer.One Answer.Given x y = absurd y
-says_one g w Answer.Two Answer.Given x y = absurd y
-says_one g w Answer.None (Answer.Refused f) x y = absurd y
-says_one g w Answer.One (Answer.Refused f) x y = absurd y
-says_one g w Answer.Two (Answer.Refused f) x y = absurd y
-says_one g w Answer.Clear b x y = absurd x
-says_one g w Answer.Given b x y = absurd x
-says_one g w (Answer.Refused f) b x y = absurd x
-
--- 2. words
+-- 1. words
 
 -- words of the machine
 abbrev pub Words : List ℕ → Type 0
@@ -71,7 +48,7 @@ filled_same {g} {w} {ws} {a} {b} p q x y =
     sym (take-append-drop n a) ∙ (λ i. front i ++ (x.past ∙ sym y.past) i)
     ∙ take-append-drop n b
 
--- 3. the verdict
+-- 2. the verdict
 
 pub same_sheets : {o : Sheets} {g g' : Rules} {w w' : Word} → o ≡ accepted (g, w)
     → o ≡ accepted (g', w') → (g ≡ g') × (w ≡ w')
@@ -91,7 +68,8 @@ both_sheets (accepted h) tokens g w e = go (token_sheet tokens) e
         let z = same_items refl d in
         (ap (λ (p : Rules × Word). accepted p.0) z, ap (λ (p : Rules × Word). accepted p.1) z)
 
-verdict_on : (g : Rules) (w : Word) {ws a b : List ℕ} {r s : Reply} → Words a → Words b
+verdict_on : (g : Rules) (w : Word) {ws a b : List ℕ} {r s : Result Verdict Refusal} → Words a
+    → Words b
     → VerdictOn g w ws a r → VerdictOn g w ws b s → (r ≡ s) × (a ≡ b)
 verdict_on g w p q (short {f = f} l n x h) (short {f = f'} m o y k) =
     let z : f ≡ f' = same_fault f f' 21 n o in
@@ -100,12 +78,12 @@ verdict_on g w p q (short l n x h) (judging y m k) =
     absurd (omega (arith, k.sheet.enough, k.long))
 verdict_on g w p q (judging y m k) (short l n x h) =
     absurd (omega (arith, k.sheet.enough, k.long))
-verdict_on g w {r = r} {s = s} p q (judging x l h) (judging y m k) =
-    let a : r.answer ≡ s.answer = says_one g w r.answer s.answer x y in
-    let b : r.line ≡ s.line = l ∙ sym m in
-    (λ i. record { answer = a i; line = b i }, filled_same p q h k)
+verdict_on g w p q (judging {v = v} x l h) (judging {v = v'} y m k) =
+    let a : v ≡ v' = verdict_same g 0 w v v' x y in
+    (l ∙ ap (λ (z : Verdict). Ok z) a ∙ sym m, filled_same p q h k)
 
-pub verdict_settled : {given : Sheets} {ws a b : List ℕ} {r s : Reply} → Words a → Words b
+pub verdict_settled : {given : Sheets} {ws a b : List ℕ} {r s : Result Verdict Refusal} → Words a
+    → Words b
     → VerdictBy given ws a r → VerdictBy given ws b s → (r ≡ s) × (a ≡ b)
 verdict_settled p q (refusing e x h) (refusing d y k) =
     let z = same_refusal e d in
@@ -116,10 +94,10 @@ verdict_settled p q (reading {g = g} {w = w} e x) (reading d y) =
     let z = same_sheets e d in
     verdict_on g w p q x (rw (← z.0, ← z.1) at y)
 
--- 4. the trees
+-- 3. the trees
 
 -- the same reply and the same memories
-abbrev pub Same : (a b c d : List ℕ) (r s : TreesReply) → Type 0
+abbrev pub Same : (a b c d : List ℕ) (r s : Result TreeRows Refusal) → Type 0
 Same a b c d r s = (r ≡ s) × ((a ≡ b) × (c ≡ d))
 
 -- the same verdict, and first and second trees with the same rows
@@ -154,18 +132,18 @@ module _ (dis : Display) {g g' : Rules} {w w' : Word} (A : SameTrees dis g g' w 
   never_two : {p p' q q' m n : ℕ} → p ≡ p' → q ≡ q' → p ≤ m → q ≤ n → (m < p') ⊎ (n < q') → ⊥
   never_two e f h k l = ⊎_elim (λ x. omega arith) (λ x. omega arith) l
 
-  large_same : {f f' : Fault} {a b c d : List ℕ} {r s : TreesReply} → number_of f ≡ 22
+  large_same : {f f' : Fault} {a b c d : List ℕ} {r s : Result TreeRows Refusal} → number_of f ≡ 22
       → number_of f' ≡ 22
-      → r ≡ trees_reply_of (Answer.Refused f) 0 0 0 → s ≡ trees_reply_of (Answer.Refused f') 0 0 0
+      → r ≡ refusal f 0 → s ≡ refusal f' 0
       → a ≡ filled dis one none → b ≡ filled dis one none → c ≡ filled dis two none
       → d ≡ filled dis two none → Same a b c d r s
   large_same {f} {f'} m n x y h k i j = (
-    x ∙ ap (λ (z : Fault). trees_reply_of (Answer.Refused z) 0 0 0) (same_fault f f' 22 m n)
+    x ∙ ap (λ (z : Fault). refusal z 0) (same_fault f f' 22 m n)
         ∙ sym y,
     (h ∙ sym k, i ∙ sym j),
   )
 
-  pub shown_same : {a b c d : List ℕ} {r s : TreesReply} → Shown dis g w one a two c r
+  pub shown_same : {a b c d : List ℕ} {r s : Result TreeRows Refusal} → Shown dis g w one a two c r
       → Shown dis g' w' one b two d s → Same a b c d r s
   shown_same (treeless p x h i) (treeless q y k j) = (x ∙ sym y, (h ∙ sym k, i ∙ sym j))
   shown_same (treeless p x h i) (single q t l y k j) = absurd (none_not_one (A.no_tree p) q)
@@ -175,7 +153,7 @@ module _ (dis : Display) {g g' : Rules} {w w' : Word} (A : SameTrees dis g g' w 
   shown_same (single p t l x h i) (treeless q y k j) = absurd (none_not_one q (A.one_tree p))
   shown_same (single p a l x h i) (single q b m y k j) =
       let e = A.first a b in (
-        x ∙ ap (λ (n : ℕ). trees_reply_of Answer.One 0 n 0) e.1
+        x ∙ ap (λ (n : ℕ). trees_reply_of Verdict.One n 0) e.1
             ∙ sym y,
         (h ∙ filled_alike one e ∙ sym k, i ∙ sym j),
       )
@@ -189,7 +167,7 @@ module _ (dis : Display) {g g' : Rules} {w w' : Word} (A : SameTrees dis g g' w 
   shown_same (both p a c l m x h i) (both q b e n o y k j) =
       let v = A.first a b in
       let z = A.second c e in (
-        x ∙ (λ i. trees_reply_of Answer.Two 0 (v.1 i) (z.1 i))
+        x ∙ (λ i. trees_reply_of Verdict.Two (v.1 i) (z.1 i))
             ∙ sym y,
         (h ∙ filled_alike one v ∙ sym k, i ∙ filled_alike two z ∙ sym j),
       )
@@ -216,18 +194,18 @@ module _ (dis : Display) {g g' : Rules} {w w' : Word} (A : SameTrees dis g g' w 
   shown_same (large_two p a c l m x h i) (large_two q b e n o y k j) = large_same m o x y h k i j
 
 pub shown_settled : (dis : Display) (g : Rules) (w : Word) (one two : List ℕ) → Distinct g
-    → {a b c d : List ℕ} {r s : TreesReply}
+    → {a b c d : List ℕ} {r s : Result TreeRows Refusal}
     → Shown dis g w one a two c r → Shown dis g w one b two d s → Same a b c d r s
 shown_settled dis g w one two D = shown_same dis (same_self dis g w D) one two
 
 pub trees_on : (dis : Display) (g : Rules) (w : Word) {ws a b one two m m' n n' : List ℕ}
-    {r s : TreesReply} → Distinct g → Words a → Words b
+    {r s : Result TreeRows Refusal} → Distinct g → Words a → Words b
     → TreesOn dis g w ws a one m two n r → TreesOn dis g w ws b one m' two n' s
     → (a ≡ b) × Same m m' n n' r s
 trees_on dis g w D p q (Trees.short {f = f} u v x h i j) (Trees.short {f = f'} m n y k l o) = (
   h ∙ sym k,
   (
-    x ∙ ap (λ (z : Fault). trees_reply_of (Answer.Refused z) 0 0 0)
+    x ∙ ap (λ (z : Fault). refusal z 0)
         (same_fault f f' 21 v n) ∙ sym y,
     (i ∙ sym l, j ∙ sym o),
   ),
@@ -251,7 +229,8 @@ pub sheets_apart : (rules tokens : List ℕ) → Apart (sheets rules tokens)
 sheets_apart rules tokens =
     apart_of (rule_sheet rules) tokens (λ g e. (rules_good rules g e).distinct)
 
-pub trees_settled : {given : Sheets} {ws a b one two m m' n n' : List ℕ} {r s : TreesReply}
+pub trees_settled : {given : Sheets} {ws a b one two m m' n n' : List ℕ}
+    {r s : Result TreeRows Refusal}
     → Apart given → Words a → Words b
     → TreesBy given ws a one m two n r → TreesBy given ws b one m' two n' s
     → (a ≡ b) × Same m m' n n' r s

@@ -8,8 +8,10 @@ use Rattle.clauses.proofs.Verdicts.{two_trees}
 use Rattle.clause_sheets.specs.ClauseSheets.{clause_sheet}
 use Rattle.clause_sheets.proofs.Meaning.{meant}
 use Rattle.pairs.specs.Always.{AlwaysClear}
+use Rattle.std.specs.Prelude.{Result, Ok}
+use Rattle.sheets.specs.declared.Refusal.{Refusal}
+use Rattle.call_always.specs.declared.Told.{Told}
 use Rattle.call_always.specs.declared.Told.TheVariants as Told
-use Rattle.call_always.specs.declared.AlwaysReply.{AlwaysReply}
 use Rattle.call_always.proofs.Means.{clear_always}
 use Rattle.call_always.specs.Clauses.{ClauseAlways}
 use Rattle.call_always.specs.ClauseMeaning.{ClearSheet}
@@ -24,6 +26,6 @@ clear_sheet s g e a =
       clear = record { absent = λ w rise wide t. a.clear w rise wide (two_trees m.match w t) };
     }
 
-pub clear_readings : (s : List ℕ) {words words' list list' : List ℕ} {r : AlwaysReply}
-    → ClauseAlways s words words' list list' r → r.told ≡ Told.Clear → ClearSheet s
+pub clear_readings : (s : List ℕ) {words words' list list' : List ℕ} {r : Result Told Refusal}
+    → ClauseAlways s words words' list list' r → r ≡ Ok Told.Clear → ClearSheet s
 clear_readings s x c = let z = clear_always x c in clear_sheet s z.0 z.1 z.2

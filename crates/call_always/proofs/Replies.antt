@@ -8,10 +8,11 @@ use Rattle.grammar.specs.Trees.{Rules}
 use Rattle.sheets.specs.Items.{Reading}
 use Rattle.spans.specs.Changes.{Past, Cleared}
 use Rattle.spans.proofs.ChangeLaws.{past_then, past_drop, zeroed}
-use Rattle.lists.specs.declared.Listed.{Listed}
 use Rattle.lists.proofs.Settled.{gives_map}
 use Rattle.doubt_list.specs.Given.{DoubtsGiven}
-use Rattle.call_always.specs.declared.AlwaysReply.{AlwaysReply}
+use Rattle.std.specs.Prelude.{Option, Result}
+use Rattle.sheets.specs.declared.Refusal.{Refusal}
+use Rattle.call_always.specs.declared.Told.{Told}
 use Rattle.call_always.specs.Always.{AlwaysBy}
 use Rattle.call_always.specs.Replying.{replied, DoubtsTold}
 
@@ -27,12 +28,13 @@ all_emptied m {ws} {ws'} {ws''} h p c =
 
 -- a promise by what the reader answered is one by the sheet
 pub always_by : {o o' : Reading Rules} → o ≡ o'
-    → {words words' list list' : List ℕ} {r : AlwaysReply}
+    → {words words' list list' : List ℕ} {r : Result Told Refusal}
     → AlwaysBy o words words' list list' r → AlwaysBy o' words words' list list' r
 always_by e x = rw e at x
 
 -- the reply on the list of all doubts tells them
-pub doubts_told : {g : Rules} {lent lent' : List ℕ} {l : Listed} {r : AlwaysReply} → r ≡ replied l
+pub doubts_told : {g : Rules} {lent lent' : List ℕ} {l : Option ℕ} {r : Result Told Refusal}
+    → r ≡ replied l
     → DoubtsGiven g lent lent' l → DoubtsTold g lent lent' r
 doubts_told e x =
     record {

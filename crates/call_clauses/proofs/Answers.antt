@@ -1,6 +1,6 @@
 -- A verdict on a clause sheet is a verdict on the readings under its own clauses, and so is a
 -- sweep.
-use mathlib.Core.Path.{ap, subst}
+use mathlib.Core.Path.{subst}
 use mathlib.Core.List.{List, [], ◌∷◌}
 use Prim.Native.Nat.{ℕ, ◌+◌}
 use lib.ListN.{length}
@@ -16,38 +16,38 @@ use Rattle.clauses.specs.Matching.{OneToOne}
 use Rattle.clauses.proofs.Verdicts.{no_reading, one_reading, two_readings, two_trees}
 use Rattle.clause_sheets.specs.ClauseSheets.{clause_sheet}
 use Rattle.clause_sheets.proofs.Meaning.{meant}
-use Rattle.sheets.specs.declared.Answer.{Answer}
-use Rattle.answering.specs.declared.Reply.{Reply}
-use Rattle.sweep_answers.specs.declared.SweepReply.{SweepReply}
-use Rattle.answering.specs.Answers.{AnswerHolds}
+use Rattle.std.specs.Prelude.{Result}
+use Rattle.grammar.specs.declared.Verdict.{Verdict}
+use Rattle.grammar.specs.declared.Verdict.TheVariants as Verdicts
+use Rattle.grammar.specs.Verdicts.{Holds}
+use Rattle.sheets.specs.declared.Refusal.{Refusal}
+use Rattle.sweep_answers.specs.declared.Swept.{Swept}
 use Rattle.answering.proofs.Settled.{both_sheets}
-use Rattle.answering.specs.Verdict as Verdict
+use Rattle.answering.specs.Verdict as Call
 use Rattle.sweep_answers.specs.Sweep as Sweep
 use Rattle.call_clauses.specs.Calls.{ClauseVerdict, ClauseSweep}
 use Rattle.call_clauses.specs.Meaning.{SaysReadings, VerdictReads, ClearReadings, AnyTerminal}
 use Rattle.call_clauses.specs.Meaning.{FirstTwoReadings, SweepReads}
 use Rattle.call_clauses.specs.Meaning as Meaning
 
-said_readings : (c : Clauses) (g : Rules) (w : Word) → OneToOne c g 0 → (a : Answer)
-    → AnswerHolds a g w → SaysReadings a c w
-said_readings c g w m Answer.None s = no_reading m w s
-said_readings c g w m Answer.One s = one_reading m w s
-said_readings c g w m Answer.Two s = two_readings m w s
-said_readings c g w m Answer.Clear s = s
-said_readings c g w m Answer.Given s = s
-said_readings c g w m (Answer.Refused f) s = s
+said_readings : (c : Clauses) (g : Rules) (w : Word) → OneToOne c g 0 → (v : Verdict)
+    → Holds v g 0 w → SaysReadings v c w
+said_readings c g w m Verdicts.None s = no_reading m w s
+said_readings c g w m Verdicts.One s = one_reading m w s
+said_readings c g w m Verdicts.Two s = two_readings m w s
 
 -- 1. the verdict
 
-pub verdict_reads : (s t : List ℕ) {ws ws' : List ℕ} {r : Reply} → ClauseVerdict s t ws ws' r
+pub verdict_reads : (s t : List ℕ) {ws ws' : List ℕ} {r : Result Verdict Refusal}
+    → ClauseVerdict s t ws ws' r
     → VerdictReads s t r
-verdict_reads s t (Verdict.refusing e x h) = Meaning.refusing (ap (λ (z : Reply). z.answer) x)
-verdict_reads s t (Verdict.reading e (Verdict.short l n x h)) =
-    Meaning.refusing (ap (λ (z : Reply). z.answer) x)
-verdict_reads s t {r = r} (Verdict.reading {g = g} {w = w} e (Verdict.judging a n h)) =
+verdict_reads s t (Call.refusing e x h) = Meaning.refusing x
+verdict_reads s t (Call.reading e (Call.short l n x h)) =
+    Meaning.refusing x
+verdict_reads s t (Call.reading {g = g} {w = w} e (Call.judging {v = v} a n h)) =
     let o = both_sheets (clause_sheet s) t g w e in
     let m = meant s g o.0 in
-    Meaning.saying m.own o.1 (said_readings m.clauses g w m.match r.answer a)
+    Meaning.saying m.own o.1 (said_readings m.clauses g w m.match v a) n
 
 -- 2. the sweep
 
@@ -115,15 +115,16 @@ module _ {c : Clauses} {g : Rules} (m : OneToOne c g 0) where
             x.earlier ds l (candidate_of g ds d y) b y;
       }
 
-pub sweep_reads : (s : List ℕ) (k : ℕ) {ws ws' : List ℕ} {r : SweepReply} → ClauseSweep s k ws ws' r
+pub sweep_reads : (s : List ℕ) (k : ℕ) {ws ws' : List ℕ} {r : Result Swept Refusal}
+    → ClauseSweep s k ws ws' r
     → SweepReads s k r
-sweep_reads s k (Sweep.refusing e x h) = Meaning.refusing (ap (λ (z : SweepReply). z.answer) x)
+sweep_reads s k (Sweep.refusing e x h) = Meaning.refusing x
 sweep_reads s k (Sweep.reading e (Sweep.bound l n x h)) =
-    Meaning.refusing (ap (λ (z : SweepReply). z.answer) x)
+    Meaning.refusing x
 sweep_reads s k (Sweep.reading e (Sweep.many l u m n x h)) =
-    Meaning.refusing (ap (λ (z : SweepReply). z.answer) x)
+    Meaning.refusing x
 sweep_reads s k (Sweep.reading e (Sweep.short l u m o n x h)) =
-    Meaning.refusing (ap (λ (z : SweepReply). z.answer) x)
+    Meaning.refusing x
 sweep_reads s k (Sweep.reading {g = g} e (Sweep.clear t c q x h)) =
     let m = meant s g e in
     Meaning.saying_clear m.own (clear_readings m.match c) x

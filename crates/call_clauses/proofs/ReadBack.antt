@@ -3,7 +3,8 @@
 use mathlib.Core.Path.{◌≡◌, refl, sym, ap, ◌∙◌}
 use mathlib.Core.Bool.{Bool, true, false, not, cond, ◌&&◌, ◌||◌}
 use mathlib.Core.List.{List, [], ◌∷◌, ◌++◌, append-nil, append_assoc, Memᴰ}
-use mathlib.Core.Option.{Option, none, some}
+use mathlib.Core.Option.{some}
+use Rattle.std.specs.Prelude.{Option, None, Some}
 use Prim.Native.Nat.{ℕ, zero, suc, ◌≤◌, ◌<◌}
 use native.Mathlib.Decide.{ℕ_discrete}
 use native.Mathlib.Omega.{arith}
@@ -22,14 +23,14 @@ use Rattle.grammar.specs.Content.{SmallRule}
 use Rattle.grammar.specs.Distinct.{Distinct}
 use Rattle.grammar.proofs.Lists.{mem_every, every_append}
 use Rattle.printing.specs.Printing.{decimal, field}
-use Rattle.fields.specs.declared.Operand.{Operand}
 use Rattle.fields.specs.declared.Kind.{Kind}
 use Rattle.fields.specs.declared.Lay.{Lay}
 use Rattle.fields.specs.Pieces.{pieces, is_empty, same_bytes}
 use Rattle.fields.specs.Words.{numeral_of, operand_of, lay_of, number_operand_of}
 use Rattle.fields.specs.Fields.{on_value}
 use Rattle.fields.proofs.Cuts.{FreeOf, pieces_free, pieces_cut}
-use Rattle.lines.specs.declared.RuleLine.{RuleLine}
+use Rattle.std.specs.Prelude.{Result, Ok, Err}
+use Rattle.lines.specs.declared.RuleFault.{RuleFault}
 use Rattle.lines.specs.RuleLines.{rule_of_of, rule_fields, rule_line_of}
 use Rattle.lines.specs.Keys.{key_of}
 use Rattle.lines.specs.declared.Turn.{Turn}
@@ -66,12 +67,12 @@ free_then b (x ∷ u) v h k = (h.0, free_then b u v h.1 k)
 -- 2. numbers below 64, by a table
 
 abbrev is_number : Option ℕ → ℕ → Bool
-is_number (some v) n = eqb v n
-is_number none n = false
+is_number (Some v) n = eqb v n
+is_number None n = false
 
-number_is : (o : Option ℕ) (n : ℕ) → is_number o n ≡ true → o ≡ some n
-number_is (some v) n e = ap some (eqb-true v n e)
-number_is none n e = absurd (clash cc)
+number_is : (o : Option ℕ) (n : ℕ) → is_number o n ≡ true → o ≡ Some n
+number_is (Some v) n e = ap Some (eqb-true v n e)
+number_is None n e = absurd (clash cc)
 
 abbrev plain : ℕ → Bool
 plain n = is_number (numeral_of (decimal n)) n
@@ -97,8 +98,8 @@ table = refl
 
 -- written plainly, it is read as itself
 record Plain (n : ℕ) : Type 0 where
-  number : numeral_of (decimal n) ≡ some n
-  operand : operand_of (decimal n) ≡ some (record { dash = false; value = n })
+  number : numeral_of (decimal n) ≡ Some n
+  operand : operand_of (decimal n) ≡ Some (Some n)
   line : FreeOf 10 (decimal n)
   blank : FreeOf 32 (decimal n)
 
@@ -113,7 +114,7 @@ plain_below n h =
     let e = number_is (numeral_of (decimal n)) n k.0 in
     record {
       number = e;
-      operand = ap (λ (b : Bool). cond b (some (record { dash = true; value = 0 }))
+      operand = ap (λ (b : Bool). cond b (Some None)
           (number_operand_of (numeral_of (decimal n))))
           (not_true (same_bytes (decimal n) (45 ∷ [])) j.0) ∙ ap number_operand_of e;
       line = free_of 10 (decimal n) f.0;
@@ -209,17 +210,18 @@ number_field n h = let p = plain_below n h in record { line = p.line; blank = p.
 
 -- what the fields say, where the kind is k
 module _ (k : Kind) where
-  abbrev heard : Option ℕ → Option Operand → Option Operand → Option Lay → RuleLine
-  heard o p q z = on_value RuleLine.Form o
-      (λ l. on_value RuleLine.Form p (λ a. on_value RuleLine.Form q
-      (λ b. on_value RuleLine.Form z (λ y. rule_of_of l k a b y))))
+  abbrev heard : Option ℕ → Option (Option ℕ) → Option (Option ℕ) → Option Lay
+      → Result Rule RuleFault
+  heard o p q z = on_value (Err RuleFault.Form) o
+      (λ l. on_value (Err RuleFault.Form) p (λ a. on_value (Err RuleFault.Form) q
+      (λ b. on_value (Err RuleFault.Form) z (λ y. rule_of_of l k a b y))))
 
 -- the bytes of a rule's line, without its end
 record Line (r : Rule) : Type 0 where
   bytes : List ℕ
   free : FreeOf 10 bytes
   text : rule_text_of r ≡ bytes ++ (10 ∷ [])
-  says : rule_line_of bytes ≡ RuleLine.Good r
+  says : rule_line_of bytes ≡ Ok r
 
 dash_field : Field (45 ∷ [])
 dash_field = field_of (45 ∷ []) refl
@@ -257,15 +259,15 @@ second_field a b true h = dash_field
 second_field a b false h = number_field b h
 
 atom_heard : (l a b : ℕ) (t : Bool) → eqb a b ≡ t → l < 64 → a < 64 → b < 64 → a ≤ b
-    → heard Kind.A (some l) (some (record { dash = false; value = a })) (operand_of (second a b t))
-    (some Lay.None) ≡ RuleLine.Good (record { left = l; clause = Clause.Atom a b })
+    → heard Kind.A (Some l) (Some (Some a)) (operand_of (second a b t))
+    (Some Lay.None) ≡ Ok (record { left = l; clause = Clause.Atom a b })
 atom_heard l a b true e h i j k =
     let z : a ≡ b = eqb-true a b e in
     rw (le-leb l 63 (omega arith), le-leb a 63 (omega arith), le-leb a a (omega arith))
-    (ap (λ (x : ℕ). RuleLine.Good (record { left = l; clause = Clause.Atom a x })) z)
+    (ap (λ (x : ℕ). Ok (record { left = l; clause = Clause.Atom a x })) z)
 atom_heard l a b false e h i j k =
-    ap (λ (q : Option Operand). heard Kind.A (some l) (some (record { dash = false; value = a })) q
-    (some Lay.None)) (plain_below b j).operand
+    ap (λ (q : Option (Option ℕ)). heard Kind.A (Some l) (Some (Some a)) q
+    (Some Lay.None)) (plain_below b j).operand
     ∙ rw (
       le-leb l 63 (omega arith),
       le-leb a 63 (omega arith),
@@ -298,8 +300,8 @@ atom_line l a b h v j k =
     }
 
 unary_heard : (l a : ℕ) (m : UnaryMark) → l < 64 → a < 64
-    → heard Kind.U (some l) (some (record { dash = false; value = a })) (operand_of (45 ∷ []))
-    (lay_of (unary_word m)) ≡ RuleLine.Good (record { left = l; clause = Clause.Unary a m })
+    → heard Kind.U (Some l) (Some (Some a)) (operand_of (45 ∷ []))
+    (lay_of (unary_word m)) ≡ Ok (record { left = l; clause = Clause.Unary a m })
 unary_heard l a UnaryMark.None h i = rw (le-leb l 63 (omega arith), le-leb a 63 (omega arith))
 unary_heard l a UnaryMark.Offside h i = rw (le-leb l 63 (omega arith), le-leb a 63 (omega arith))
 unary_heard l a UnaryMark.Offalign h i = rw (le-leb l 63 (omega arith), le-leb a 63 (omega arith))
@@ -326,9 +328,9 @@ unary_line l a m h j =
     }
 
 binary_heard : (l a b : ℕ) (m : BinaryMark) → l < 64 → a < 64 → b < 64
-    → heard Kind.B (some l) (some (record { dash = false; value = a }))
-    (some (record { dash = false; value = b })) (lay_of (binary_word m))
-    ≡ RuleLine.Good (record { left = l; clause = Clause.Binary a b m })
+    → heard Kind.B (Some l) (Some (Some a))
+    (Some (Some b)) (lay_of (binary_word m))
+    ≡ Ok (record { left = l; clause = Clause.Binary a b m })
 binary_heard l a b BinaryMark.None h i j =
     rw (le-leb l 63 (omega arith), le-leb a 63 (omega arith), le-leb b 63 (omega arith))
 binary_heard l a b BinaryMark.Align h i j =

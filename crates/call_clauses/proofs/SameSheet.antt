@@ -16,12 +16,13 @@ use Rattle.sheets.specs.Items.{accepted}
 use Rattle.sheets.specs.RuleSheets.{rule_sheet}
 use Rattle.clause_sheets.specs.ClauseSheets.{clause_sheet}
 use Rattle.clause_sheets.proofs.Good.{sheet_good, sheet_forward}
-use Rattle.sheets.specs.declared.Answer.{Answer}
-use Rattle.answering.specs.declared.Reply.{Reply}
-use Rattle.answering.specs.declared.TreesReply.{TreesReply}
-use Rattle.sweep_answers.specs.declared.SweepReply.{SweepReply}
-use Rattle.list_answers.specs.declared.ListReply.{ListReply}
-use Rattle.list_answers.specs.Lists.{list_reply}
+use Rattle.std.specs.Prelude.{Result, Ok, Err}
+use Rattle.grammar.specs.declared.Verdict.{Verdict}
+use Rattle.sheets.specs.declared.Refusal.{Refusal}
+use Rattle.sheets.specs.Results.{refusal}
+use Rattle.answering.specs.declared.TreeRows.{TreeRows}
+use Rattle.sweep_answers.specs.declared.Swept.{Swept}
+use Rattle.list_answers.specs.Lists.{list_reply, entry_count}
 use Rattle.answering.specs.Verdict.{VerdictOf}
 use Rattle.answering.specs.Trees.{TreesOf}
 use Rattle.sweep_answers.specs.Sweep.{SweepOf}
@@ -44,35 +45,35 @@ module _ (s : List ℕ) (g : Rules) (e : clause_sheet s ≡ accepted g) where
   pub same_sheet : clause_sheet s ≡ rule_sheet (sheet_text g)
   same_sheet = e ∙ sym expansion_reads_back
 
-  pub expanded_verdict : (tokens : List ℕ) {ws ws' : List ℕ} {r : Reply}
+  pub expanded_verdict : (tokens : List ℕ) {ws ws' : List ℕ} {r : Result Verdict Refusal}
       → ClauseVerdict s tokens ws ws' r → VerdictOf (sheet_text g) tokens ws ws' r
   expanded_verdict tokens x = verdict_by same_sheet tokens x
 
-  pub expanded_trees : (tokens : List ℕ) {ws ws' one one' two two' : List ℕ} {r : TreesReply}
+  pub expanded_trees : (tokens : List ℕ) {ws ws' one one' two two' : List ℕ}
+      {r : Result TreeRows Refusal}
       → ClauseTrees s tokens ws ws' one one' two two' r
       → TreesOf (sheet_text g) tokens ws ws' one one' two two' r
   expanded_trees tokens x = trees_by same_sheet tokens x
 
-  pub expanded_sweep : {k : ℕ} {ws ws' : List ℕ} {r : SweepReply} → ClauseSweep s k ws ws' r
+  pub expanded_sweep : {k : ℕ} {ws ws' : List ℕ} {r : Result Swept Refusal}
+      → ClauseSweep s k ws ws' r
       → SweepOf (sheet_text g) k ws ws' r
   expanded_sweep x = sweep_by same_sheet x
 
+-- an answered call is not refused
+not_both : {n : ℕ} {e : Refusal} → ◌≡◌ {A = Result ℕ Refusal} (Err e) (Ok n) → ⊥
+not_both e = clash cc
+
 -- the bytes that the call gives
-given_bytes : {bytes out out' : List ℕ} {f : Answer} {r : ListReply} → (f ≡ Answer.Given → ⊥)
-    → r.answer ≡ Answer.Given
-    → GivesList (list_reply Answer.Given 0) (list_reply f 0 0) bytes (length bytes) out out' r
-    → take r.count out' ≡ bytes
-given_bytes {bytes} {out} n a (fits h x p) = (λ i. take (x i).count (p i))
+given_bytes : {bytes out out' : List ℕ} {f : Fault} {r : Result ℕ Refusal} {n : ℕ} → r ≡ Ok n
+    → GivesList list_reply (refusal f 0) bytes (length bytes) out out' r → take n out' ≡ bytes
+given_bytes {bytes} {out} a (fits h x p) = (λ i. take (entry_count ((sym a ∙ x) i)) (p i))
     ∙ take_at bytes (replicate (length out - length bytes) 0) (length bytes) refl
-given_bytes n a (large h x p) = absurd (n (sym (ap (λ (z : ListReply). z.answer) x) ∙ a))
+given_bytes a (large h x p) = absurd (not_both (sym x ∙ a))
 
-refused_given : {f : Fault} → Answer.Refused f ≡ Answer.Given → ⊥
-refused_given e = clash cc
-
-pub expand_reads_back : {s out out' : List ℕ} {r : ListReply} → ExpandOf s out out' r
-    → r.answer ≡ Answer.Given → rule_sheet (take r.count out') ≡ clause_sheet s
-expand_reads_back (refusing e x h) a =
-    absurd (refused_given (sym (ap (λ (z : ListReply). z.answer) x) ∙ a))
-expand_reads_back {s} {out} {out'} {r} (giving {g = g} e l) a =
-    let b : take r.count out' ≡ sheet_text g = given_bytes refused_given a l.gives in
+pub expand_reads_back : {s out out' : List ℕ} {r : Result ℕ Refusal} {n : ℕ} → ExpandOf s out out' r
+    → r ≡ Ok n → rule_sheet (take n out') ≡ clause_sheet s
+expand_reads_back (refusing e x h) a = absurd (not_both (sym x ∙ a))
+expand_reads_back {s} {out} {out'} {n = n} (giving {g = g} e l) a =
+    let b : take n out' ≡ sheet_text g = given_bytes a l.gives in
     ap rule_sheet b ∙ sym (same_sheet s g e)

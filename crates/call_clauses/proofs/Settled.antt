@@ -13,10 +13,11 @@ use Rattle.sheets.proofs.Settled.{SamePart, held_settled}
 use Rattle.clauses.proofs.Apart.{expansion_distinct}
 use Rattle.clause_sheets.specs.ClauseSheets.{clause_sheet}
 use Rattle.clause_sheets.proofs.Meaning.{meant}
-use Rattle.answering.specs.declared.Reply.{Reply}
-use Rattle.answering.specs.declared.TreesReply.{TreesReply}
-use Rattle.sweep_answers.specs.declared.SweepReply.{SweepReply}
-use Rattle.list_answers.specs.declared.ListReply.{ListReply}
+use Rattle.std.specs.Prelude.{Result}
+use Rattle.grammar.specs.declared.Verdict.{Verdict}
+use Rattle.sheets.specs.declared.Refusal.{Refusal}
+use Rattle.answering.specs.declared.TreeRows.{TreeRows}
+use Rattle.sweep_answers.specs.declared.Swept.{Swept}
 use Rattle.answering.proofs.Settled.{Words, Apart, apart_of, verdict_settled, trees_settled}
 use Rattle.sweep_answers.proofs.SweepSettled.{sweep_settled}
 use Rattle.list_answers.proofs.ListSettled.{list_settled}
@@ -32,19 +33,20 @@ clauses_apart clauses tokens = apart_of (clause_sheet clauses) tokens
     subst Distinct (sym m.rules) (expansion_distinct m.clauses))
 
 module _ (clauses : List ℕ) where
-  pub clause_verdict_settled : (tokens : List ℕ) {ws a b : List ℕ} {r s : Reply} → Words a → Words b
+  pub clause_verdict_settled : (tokens : List ℕ) {ws a b : List ℕ} {r s : Result Verdict Refusal}
+      → Words a → Words b
       → ClauseVerdict clauses tokens ws a r → ClauseVerdict clauses tokens ws b s
       → (r ≡ s) × (a ≡ b)
   clause_verdict_settled tokens p q x y = verdict_settled p q x y
 
   pub clause_trees_settled : (tokens : List ℕ) {ws a b one two m m' n n' : List ℕ}
-      {r s : TreesReply} → Words a → Words b
+      {r s : Result TreeRows Refusal} → Words a → Words b
       → ClauseTrees clauses tokens ws a one m two n r
       → ClauseTrees clauses tokens ws b one m' two n' s
       → (a ≡ b) × ((r ≡ s) × ((m ≡ m') × (n ≡ n')))
   clause_trees_settled tokens p q x y = trees_settled (clauses_apart clauses tokens) p q x y
 
-  pub clause_sweep_settled : {k : ℕ} {ws a b : List ℕ} {r s : SweepReply}
+  pub clause_sweep_settled : {k : ℕ} {ws a b : List ℕ} {r s : Result Swept Refusal}
       → ClauseSweep clauses k ws a r → ClauseSweep clauses k ws b s → (r ≡ s) × (a ≡ b)
   clause_sweep_settled x y = sweep_settled x y
 
@@ -57,7 +59,7 @@ clause_refused_line_settled clauses tokens r s =
     held_settled clauses tokens r s (clause_sheet clauses.now) (token_sheet tokens.now)
 
 -- expand
-pub expand_settled : {clauses out a b : List ℕ} {r s : ListReply} → ExpandOf clauses out a r
+pub expand_settled : {clauses out a b : List ℕ} {r s : Result ℕ Refusal} → ExpandOf clauses out a r
     → ExpandOf clauses out b s → (r ≡ s) × (a ≡ b)
 expand_settled (refusing e x h) (refusing d y k) = let z = same_refusal e d in
     (x ∙ rw (z.0, z.1) (sym y), h ∙ sym k)
@@ -69,7 +71,8 @@ expand_settled (giving e x) (giving d y) =
 
 -- of the lent bytes only their number counts: the reply, and the bytes that it counts, are the same
 -- whatever stood there before
-pub expand_reply : {clauses out other a b : List ℕ} {r s : ListReply} → length out ≡ length other
+pub expand_reply : {clauses out other a b : List ℕ} {r s : Result ℕ Refusal}
+    → length out ≡ length other
     → ExpandOf clauses out a r → ExpandOf clauses other b s → SameBytes a b r s
 expand_reply {a = a} {b = b} c (refusing e x h) (refusing d y k) =
     refusal_bytes a b (same_refusal e d) x y

@@ -18,10 +18,11 @@ use Rattle.column_search.specs.Answers.{FlagsSay}
 use Rattle.sheets.proofs.Numbers.{same_fault}
 use Rattle.column_ranges.specs.Ranges.{Ranges}
 use Rattle.sheets.specs.declared.Fault.{Fault}
-use Rattle.sheets.specs.declared.Answer.TheVariants as Answer
-use Rattle.call_columns.specs.declared.ColumnsReply.{ColumnsReply}
+use Rattle.std.specs.Prelude.{Result, Ok}
+use Rattle.sheets.specs.declared.Refusal.{Refusal}
+use Rattle.sheets.specs.Results.{refusal}
 use Rattle.sheets.proofs.Once.{apart, same_items, same_refusal}
-use Rattle.call_columns.specs.Columns.{columns_refusal, ColumnsOn, short, given, ColumnsOf}
+use Rattle.call_columns.specs.Columns.{ColumnsOn, short, given, ColumnsOf}
 use Rattle.call_columns.specs.Columns.{bad_rules, bad_ranges, reading}
 
 -- two bools that say the same thing are the same
@@ -39,25 +40,26 @@ flags_same f f' s t =
     let c = says_same f.two f'.two (s.says Verdict.Two) (t.says Verdict.Two) in
     λ i. record { none = a i; one = b i; two = c i }
 
-pub columns_on : (g : Rules) (rs : Ranges) {ws a b : List ℕ} {r s : ColumnsReply}
+pub columns_on : (g : Rules) (rs : Ranges) {ws a b : List ℕ} {r s : Result Flags Refusal}
     → ColumnsOn g rs ws a r → ColumnsOn g rs ws b s → (r ≡ s) × (a ≡ b)
 columns_on g rs (short {f = f} l n x h) (short {f = f'} m o y k) =
-    (x ∙ ap (λ (z : Fault). columns_refusal z 0) (same_fault f f' 21 n o) ∙ sym y, h ∙ sym k)
+    (x ∙ ap (λ (z : Fault). refusal z 0) (same_fault f f' 21 n o) ∙ sym y, h ∙ sym k)
 columns_on g rs (short l n x h) (given m o y k) = absurd (omega (arith, l, m))
 columns_on g rs (given m o y k) (short l n x h) = absurd (omega (arith, l, m))
 columns_on g rs (given {f = f} l n x h) (given {f = f'} m o y k) = (
-  x ∙ ap (λ (z : Flags). record { answer = Answer.Given; line = 0; found = z })
+  x ∙ ap (λ (z : Flags). Ok z)
       (flags_same f f' n o) ∙ sym y,
   h ∙ sym k,
 )
 
 -- ---- the whole promise
 
-refusals : {f f' : Fault} {l l' : ℕ} {ws a b : List ℕ} {r s : ColumnsReply} → (f ≡ f') × (l ≡ l')
-    → r ≡ columns_refusal f l → s ≡ columns_refusal f' l' → a ≡ ws → b ≡ ws → (r ≡ s) × (a ≡ b)
-refusals z x y h k = (x ∙ (λ i. columns_refusal (z.0 i) (z.1 i)) ∙ sym y, h ∙ sym k)
+refusals : {f f' : Fault} {l l' : ℕ} {ws a b : List ℕ} {r s : Result Flags Refusal}
+    → (f ≡ f') × (l ≡ l')
+    → r ≡ refusal f l → s ≡ refusal f' l' → a ≡ ws → b ≡ ws → (r ≡ s) × (a ≡ b)
+refusals z x y h k = (x ∙ (λ i. refusal (z.0 i) (z.1 i)) ∙ sym y, h ∙ sym k)
 
-pub columns_settled : (rules ranges : List ℕ) {ws a b : List ℕ} {r s : ColumnsReply}
+pub columns_settled : (rules ranges : List ℕ) {ws a b : List ℕ} {r s : Result Flags Refusal}
     → ColumnsOf rules ranges ws a r → ColumnsOf rules ranges ws b s → (r ≡ s) × (a ≡ b)
 columns_settled rules ranges (bad_rules e x h) (bad_rules d y k) =
     refusals (same_refusal e d) x y h k
@@ -73,7 +75,7 @@ columns_settled rules ranges (reading {g = g} {rs = rs} e m x) (reading d n y) =
     columns_on g rs x (rw (← same_items e d, ← same_items m n) at y)
 
 -- of the lent words only their number counts: the reply is the same whatever stood there before
-pub columns_reply : (rules ranges : List ℕ) {ws vs a b : List ℕ} {r s : ColumnsReply}
+pub columns_reply : (rules ranges : List ℕ) {ws vs a b : List ℕ} {r s : Result Flags Refusal}
     → length ws ≡ length vs → ColumnsOf rules ranges ws a r → ColumnsOf rules ranges vs b s → r ≡ s
 columns_reply rules ranges e (bad_rules d x h) y =
     (columns_settled rules ranges (bad_rules d x refl) y).0

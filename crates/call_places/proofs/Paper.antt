@@ -20,33 +20,43 @@ use Rattle.sheets.specs.declared.Answer.{Answer}
 use Rattle.sheets.specs.Items.{accepted}
 use Rattle.sheets.specs.RuleSheets.{rule_sheet}
 use Rattle.sheets.proofs.Accepted.{tokens_good}
-use Rattle.answering.specs.Answers.{sheets, AnswerHolds}
+use Rattle.std.specs.Prelude.{Result}
+use Rattle.grammar.specs.declared.Verdict.{Verdict}
+use Rattle.grammar.specs.Verdicts.{Holds}
+use Rattle.sheets.specs.declared.Refusal.{Refusal}
+use Rattle.sheets.specs.Results.{verdict_answer}
+use Rattle.answering.specs.Answers.{sheets}
 use Rattle.sheets.specs.declared.Fault.{Fault}
 use Rattle.lists.specs.Lists.{fits, large}
-use Rattle.call_places.specs.declared.PlacesReply.{PlacesReply}
-use Rattle.call_places.specs.Places.{short, listing, PlacesOf, refusing, reading}
+use Rattle.call_places.specs.declared.ListedPlaces.{ListedPlaces}
+use Rattle.call_places.specs.Places.{places_told, places_count, short, listing, PlacesOf, refusing}
+use Rattle.call_places.specs.Places.{reading}
 use Rattle.answering.proofs.Settled.{both_sheets, sheets_apart}
 use Rattle.grammar.specs.Distinct.{Distinct}
+use Rattle.sets.proofs.Basics.{clash}
 
 -- the list is empty exactly if the verdict is not two
-pub count_two : (g : Rules) (w : Word) (a : Answer) (es : List Entry) → Distinct g
-    → AnswerHolds a g w → AllPlaces g w es → (length es ≡ 0) ↔ (a ≡ Answer.Two → ⊥)
-count_two g w a es d s l = (
-  λ n e. (places_empty d l).0 (none es n) (subst (λ (b : Answer). AnswerHolds b g w) e s),
-  λ n. ap length ((places_empty d l).1 (not_two a s n)),
+pub count_two : (g : Rules) (w : Word) (v : Verdict) (es : List Entry) → Distinct g
+    → Holds v g 0 w → AllPlaces g w es → (length es ≡ 0) ↔ (v ≡ Verdict.Two → ⊥)
+count_two g w v es d s l = (
+  λ n e. (places_empty d l).0 (none es n) (subst (λ (b : Verdict). Holds b g 0 w) e s),
+  λ n. ap length ((places_empty d l).1 (not_two v s n)),
 )
   where
     none : (es : List Entry) → length es ≡ 0 → es ≡ []
     none [] n = refl
     none (e ∷ es) n = absurd (omega arith)
 
-    not_two : (a : Answer) → AnswerHolds a g w → (a ≡ Answer.Two → ⊥) → TwoTrees g 0 w → ⊥
-    not_two Answer.None s n t = none_not_two s t
-    not_two Answer.One s n t = one_not_two s t
-    not_two Answer.Two s n t = n refl
-    not_two Answer.Clear s n t = s
-    not_two Answer.Given s n t = elim s [ ]
-    not_two (Answer.Refused f) s n t = s
+    not_two : (v : Verdict) → Holds v g 0 w → (v ≡ Verdict.Two → ⊥) → TwoTrees g 0 w → ⊥
+    not_two Verdict.None s n t = none_not_two s t
+    not_two Verdict.One s n t = one_not_two s t
+    not_two Verdict.Two s n t = n refl
+
+-- so it is with the answer that the verdict is
+two_is : (v : Verdict) → verdict_answer v ≡ Answer.Two → v ≡ Verdict.Two
+two_is Verdict.None e = absurd (clash cc)
+two_is Verdict.One e = absurd (clash cc)
+two_is Verdict.Two e = refl
 
 -- a nonterminal over a word is listed exactly if the start reaches it and there are two dissimilar
 -- trees of it (the paper's 4.2 and 4.4)
@@ -70,18 +80,18 @@ reached_listed g w es l A v r d = let p = reached_place r (dissimilar_several d)
     (p.0, l.all A p.0 (length v) p.1, p.2)
 
 -- the reply's count is 0 exactly if the answer is not two, unless the call is refused
-pub count_zero : {rules tokens words words' list list' : List ℕ} {r : PlacesReply}
+pub count_zero : {rules tokens words words' list list' : List ℕ} {r : Result ListedPlaces Refusal}
     → PlacesOf rules tokens words words' list list' r
-    → ((f : Fault) → r.answer ≡ Answer.Refused f → ⊥)
-    → (r.count ≡ 0) ↔ (r.answer ≡ Answer.Two → ⊥)
-count_zero (refusing {f = f} e x h i) n = absurd (n f (ap (λ (z : PlacesReply). z.answer) x))
+    → ((f : Fault) → places_told r ≡ Answer.Refused f → ⊥)
+    → (places_count r ≡ 0) ↔ (places_told r ≡ Answer.Two → ⊥)
+count_zero (refusing {f = f} e x h i) n = absurd (n f (ap places_told x))
 count_zero (reading e (short {f = f} l m x h i)) n =
-    absurd (n f (ap (λ (z : PlacesReply). z.answer) x))
-count_zero {r = r} (reading e (listing {a = a} {f = f} s l m (large k x h) z)) n =
-    absurd (n f (ap (λ (z : PlacesReply). z.answer) x))
+    absurd (n f (ap places_told x))
+count_zero {r = r} (reading e (listing {v = v} {f = f} s l m (large k x h) z)) n =
+    absurd (n f (ap places_told x))
 count_zero {rules} {tokens} {r = r}
-    (reading {g = g} {w = w} e (listing {a = a} {es = es} s l m (fits k x h) z)) n =
-    let c = count_two g w a es ((sheets_apart rules tokens).distinct g w e) s l in
-    let p : r.count ≡ length es = ap (λ (z : PlacesReply). z.count) x in
-    let q : r.answer ≡ a = ap (λ (z : PlacesReply). z.answer) x in
-    (λ o t. c.0 (sym p ∙ o) (sym q ∙ t), λ o. p ∙ c.1 (λ t. o (q ∙ t)))
+    (reading {g = g} {w = w} e (listing {v = v} {es = es} s l m (fits k x h) z)) n =
+    let c = count_two g w v es ((sheets_apart rules tokens).distinct g w e) s l in
+    let p : places_count r ≡ length es = ap places_count x in
+    let q : places_told r ≡ verdict_answer v = ap places_told x in
+    (λ o t. c.0 (sym p ∙ o) (two_is v (sym q ∙ t)), λ o. p ∙ c.1 (λ t. o (q ∙ ap verdict_answer t)))

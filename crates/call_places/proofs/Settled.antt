@@ -13,32 +13,38 @@ use Rattle.places.specs.Places.{Entry, entry_bytes}
 use Rattle.places.proofs.ListLaws.{places_same}
 use Rattle.sheets.specs.declared.Fault.{Fault}
 use Rattle.sheets.proofs.Numbers.{same_fault}
-use Rattle.sheets.specs.declared.Answer.{Answer}
+use Rattle.std.specs.Prelude.{Result}
+use Rattle.grammar.specs.declared.Verdict.{Verdict}
+use Rattle.grammar.proofs.VerdictLaws.{verdict_same}
+use Rattle.sheets.specs.declared.Refusal.{Refusal}
+use Rattle.sheets.specs.Results.{refusal}
 use Rattle.sheets.proofs.Once.{apart, same_refusal}
-use Rattle.answering.proofs.Settled.{Words, says_one, filled_same, same_sheets}
-use Rattle.call_places.specs.declared.PlacesReply.{PlacesReply}
-use Rattle.call_places.specs.Places.{places_reply_of, places_refusal, PlacesOn, short, listing}
+use Rattle.answering.proofs.Settled.{Words, filled_same, same_sheets}
+use Rattle.call_places.specs.declared.ListedPlaces.{ListedPlaces}
+use Rattle.call_places.specs.Places.{places_reply_of, places_count, PlacesOn, short, listing}
 use Rattle.call_places.specs.Places.{PlacesOf, refusing, reading}
 
 -- the same reply, the same words and the same bytes
-abbrev Same : (a b c d : List ℕ) (r s : PlacesReply) → Type 0
+abbrev Same : (a b c d : List ℕ) (r s : Result ListedPlaces Refusal) → Type 0
 Same a b c d r s = (r ≡ s) × ((a ≡ b) × (c ≡ d))
 
-same_list : {a b : Answer} {f h : Fault} {es fs : List Entry} {lent l : List ℕ} {r : PlacesReply}
+same_list : {a b : Verdict} {f h : Fault} {es fs : List Entry} {lent l : List ℕ}
+    {r : Result ListedPlaces Refusal}
     → a ≡ b → f ≡ h → es ≡ fs
-    → GivesList (places_reply_of a) (places_refusal f 0) (bytes_of entry_bytes es) (length es) lent
+    → GivesList (places_reply_of a) (refusal f 0) (bytes_of entry_bytes es) (length es) lent
     l r
-    → GivesList (places_reply_of b) (places_refusal h 0) (bytes_of entry_bytes fs) (length fs) lent
+    → GivesList (places_reply_of b) (refusal h 0) (bytes_of entry_bytes fs) (length fs) lent
     l
     r
 same_list {lent = lent} {l} {r} p q e x =
-    transport (λ i. GivesList (places_reply_of (p i)) (places_refusal (q i) 0)
+    transport (λ i. GivesList (places_reply_of (p i)) (refusal (q i) 0)
     (bytes_of entry_bytes (e i)) (length (e i)) lent l r) x
 
-places_on : (g : Rules) (w : Word) {ws a b l m n : List ℕ} {r s : PlacesReply} → Words a → Words b
+places_on : (g : Rules) (w : Word) {ws a b l m n : List ℕ} {r s : Result ListedPlaces Refusal}
+    → Words a → Words b
     → PlacesOn g w ws a l m r → PlacesOn g w ws b l n s → Same a b m n r s
 places_on g w p q (short {f = f} h i x j k) (short {f = f'} h' i' y j' k') = (
-  x ∙ ap (λ (z : Fault). places_refusal z 0) (same_fault f f' 21 i i')
+  x ∙ ap (λ (z : Fault). refusal z 0) (same_fault f f' 21 i i')
       ∙ sym y,
   (j ∙ sym j', k ∙ sym k'),
 )
@@ -46,11 +52,12 @@ places_on g w p q (short h i x j k) (listing s t n y f) =
     absurd (omega (arith, f.sheet.enough, f.long))
 places_on g w p q (listing s t n y f) (short h i x j k) =
     absurd (omega (arith, f.sheet.enough, f.long))
-places_on g w p q (listing {a = a} {f = f} s t n x u) (listing {a = a'} {f = f'} s' t' n' y u') =
-    let z = gives_settled (same_list (says_one g w a a' s s') (same_fault f f' 22 n n')
+places_on g w p q (listing {v = a} {f = f} s t n x u) (listing {v = a'} {f = f'} s' t' n' y u') =
+    let z = gives_settled (same_list (verdict_same g 0 w a a' s s') (same_fault f f' 22 n n')
     (places_same t t') x) y in (z.0, (filled_same p q u u', z.1))
 
-pub places_settled : {rules tokens ws a b l m n : List ℕ} {r s : PlacesReply} → Words a → Words b
+pub places_settled : {rules tokens ws a b l m n : List ℕ} {r s : Result ListedPlaces Refusal}
+    → Words a → Words b
     → PlacesOf rules tokens ws a l m r → PlacesOf rules tokens ws b l n s → Same a b m n r s
 places_settled p q (refusing e x h i) (refusing d y k j) =
     let z = same_refusal e d in
@@ -63,16 +70,16 @@ places_settled p q (reading {g = g} {w = w} e x) (reading d y) =
 
 -- of what is lent only its length counts: the reply, and the entries that it counts, are the same
 -- whatever stood there before
-abbrev pub SameEntries : (m n : List ℕ) (r s : PlacesReply) → Type 0
-SameEntries m n r s = (r ≡ s) × (take (3 * r.count) m ≡ take (3 * s.count) n)
+abbrev pub SameEntries : (m n : List ℕ) (r s : Result ListedPlaces Refusal) → Type 0
+SameEntries m n r s = (r ≡ s) × (take (3 * places_count r) m ≡ take (3 * places_count s) n)
 
-module _ (m n : List ℕ) {r s : PlacesReply} where
-  refusal_entries : {f f' : Fault} {l l' : ℕ} → (f ≡ f') × (l ≡ l') → r ≡ places_refusal f l
-      → s ≡ places_refusal f' l' → SameEntries m n r s
+module _ (m n : List ℕ) {r s : Result ListedPlaces Refusal} where
+  refusal_entries : {f f' : Fault} {l l' : ℕ} → (f ≡ f') × (l ≡ l') → r ≡ refusal f l
+      → s ≡ refusal f' l' → SameEntries m n r s
   refusal_entries e x y = (
-    x ∙ (λ i. places_refusal (e.0 i) (e.1 i)) ∙ sym y,
-    ap (λ (z : PlacesReply). take (3 * z.count) m) x ∙ sym
-        (ap (λ (z : PlacesReply). take (3 * z.count) n) y),
+    x ∙ (λ i. refusal (e.0 i) (e.1 i)) ∙ sym y,
+    ap (λ (z : Result ListedPlaces Refusal). take (3 * places_count z) m) x ∙ sym
+        (ap (λ (z : Result ListedPlaces Refusal). take (3 * places_count z) n) y),
   )
 
   module _ {ws vs list other : List ℕ} (e : length ws ≡ length vs) (d : length list ≡ length other)
@@ -85,11 +92,11 @@ module _ (m n : List ℕ) {r s : PlacesReply} where
         absurd (omega (arith, f.sheet.enough, f.long))
     places_on_reply g w (listing p t q y f) (short h i x j k) =
         absurd (omega (arith, f.sheet.enough, f.long))
-    places_on_reply g w (listing {a = v} {f = f} p t q x u)
-        (listing {a = v'} {f = f'} p' t' q' y u') =
+    places_on_reply g w (listing {v = v} {f = f} p t q x u)
+        (listing {v = v'} {f = f'} p' t' q' y u') =
         let z = gives_settled (gives_moved d
-        (same_list (says_one g w v v' p p') (same_fault f f' 22 q q') (places_same t t') x))
-        y in (z.0, λ i. take (3 * (z.0 i).count) (z.1 i))
+        (same_list (verdict_same g 0 w v v' p p') (same_fault f f' 22 q q') (places_same t t') x))
+        y in (z.0, λ i. take (3 * places_count (z.0 i)) (z.1 i))
 
     pub places_reply : {rules tokens : List ℕ} → PlacesOf rules tokens ws a list m r
         → PlacesOf rules tokens vs b other n s → SameEntries m n r s

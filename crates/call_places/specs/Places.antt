@@ -1,6 +1,6 @@
 -- The promise of the call `places`: docs/FORMAT.md, "Calls and lent memory", on lists
 -- that later calls give.
-use Rattle.std.specs.Prelude.{◌≡◌, List, ℕ, ◌<◌, length}
+use Rattle.std.specs.Prelude.{◌≡◌, List, ℕ, Result, Ok, ◌<◌, length}
 use Rattle.grammar.specs.Layout.{Word}
 use Rattle.grammar.specs.Trees.{Rules}
 use Rattle.lists.specs.Lists.{bytes_of, GivesList}
@@ -9,38 +9,47 @@ use Rattle.sheets.specs.Items.{accepted}
 use Rattle.sheets.specs.declared.Fault.{Fault}
 use Rattle.sheets.specs.Refusals.{number_of, RefusedAs}
 use Rattle.sheets.specs.declared.Answer.{Answer}
-use Rattle.answering.specs.Answers.{sheets, AnswerHolds}
+use Rattle.sheets.specs.declared.Refusal.{Refusal}
+use Rattle.sheets.specs.Results.{verdict_answer, refusal, told_answer, told_value}
+use Rattle.grammar.specs.declared.Verdict.{Verdict}
+use Rattle.grammar.specs.Verdicts.{Holds}
+use Rattle.answering.specs.Answers.{sheets}
 use Rattle.answering.specs.Verdict.{needed, SheetFilled}
-use Rattle.call_places.specs.declared.PlacesReply.{PlacesReply}
+use Rattle.call_places.specs.declared.ListedPlaces.{ListedPlaces}
 
--- the answer, with the list's number of entries
-abbrev pub places_reply_of : Answer → ℕ → PlacesReply
-places_reply_of a n = record { answer = a; line = 0; count = n }
-
--- a refused call lists no place
-abbrev pub places_refusal : Fault → ℕ → PlacesReply
-places_refusal f l = record { answer = Answer.Refused f; line = l; count = 0 }
+-- the verdict, with the list's number of entries
+abbrev pub places_reply_of : Verdict → ℕ → Result ListedPlaces Refusal
+places_reply_of v n = Ok (record { verdict = v; count = n })
 
 -- the answer on rules and a word that both sheets give
-pub data PlacesOn (g : Rules) (w : Word) (words words' list list' : List ℕ) (r : PlacesReply) : Type
-    0 where
+pub data PlacesOn (g : Rules) (w : Word) (words words' list list' : List ℕ)
+    (r : Result ListedPlaces Refusal) : Type 0 where
   -- fewer words than the span sheet needs: nothing changes
   short : {f : Fault} → length words < needed w → number_of f ≡ 21
-      → r ≡ places_refusal f 0 → words' ≡ words → list' ≡ list
+      → r ≡ refusal f 0 → words' ≡ words → list' ≡ list
       → PlacesOn g w words words' list list' r
   -- the verdict, the list of all places, three bytes an entry, or refusal 22 where it does not fit,
   -- and the span sheet filled
-  listing : {a : Answer} {f : Fault} {es : List Entry} → AnswerHolds a g w → AllPlaces g w es
+  listing : {v : Verdict} {f : Fault} {es : List Entry} → Holds v g 0 w → AllPlaces g w es
       → number_of f ≡ 22
-      → GivesList (places_reply_of a) (places_refusal f 0) (bytes_of entry_bytes es) (length es)
+      → GivesList (places_reply_of v) (refusal f 0) (bytes_of entry_bytes es) (length es)
       list
       list' r → SheetFilled g w words words' → PlacesOn g w words words' list list' r
 
 -- what the call answers, and what it leaves of the lent words and of the lent bytes
-pub data PlacesOf (rules tokens words words' list list' : List ℕ) (r : PlacesReply) : Type 0 where
+pub data PlacesOf (rules tokens words words' list list' : List ℕ)
+    (r : Result ListedPlaces Refusal) : Type 0 where
   -- a refused sheet: nothing changes
   refusing : {f : Fault} {l : ℕ} → RefusedAs (sheets rules tokens) f l
-      → r ≡ places_refusal f l → words' ≡ words → list' ≡ list
+      → r ≡ refusal f l → words' ≡ words → list' ≡ list
       → PlacesOf rules tokens words words' list list' r
   reading : {g : Rules} {w : Word} → sheets rules tokens ≡ accepted (g, w)
       → PlacesOn g w words words' list list' r → PlacesOf rules tokens words words' list list' r
+
+-- what the result tells: the verdict, and the list's number of entries; a refused call lists no
+-- place
+abbrev pub places_told : Result ListedPlaces Refusal → Answer
+places_told r = told_answer (λ (t : ListedPlaces). verdict_answer t.verdict) r
+
+abbrev pub places_count : Result ListedPlaces Refusal → ℕ
+places_count r = told_value (λ (t : ListedPlaces). t.count) 0 r

@@ -4,72 +4,52 @@
 
 ghost use Rattle.std.specs.Prelude.{◌≡◌};
 ghost use Rattle.grammar.specs.Trees.{TwoTrees};
-ghost use Rattle.grammar.specs.Content.{rules_of as rulesOf, Formed, Positioned};
+ghost use Rattle.grammar.specs.Content.{rules_of, Formed, Positioned};
 ghost use Rattle.grammar.specs.SpanSheet.{SpanSheet};
 ghost use Rattle.place_list.specs.Given.{PlacesGiven};
-ghost use Rattle.call_places.specs.Places.{places_refusal, PlacesOn, PlacesOf};
+ghost use Rattle.call_places.specs.Places.{PlacesOn, PlacesOf};
 ghost use Rattle.call_places.specs.Replies.{NothingGiven, replied};
 ghost use Rattle.grammar.specs.Sentences.{spelled};
 
 use contained_spans::find_places;
 use filling::judge;
 use grammar::{Grammar, Sentence, Verdict};
-use lists::{Listed, begin, finish};
+use lists::{begin, finish};
 use place_list::list_places;
-use sheets::{Answer, Fault, Outcome, read_rules, read_tokens};
+use sheets::{Fault, Refusal, read_rules, read_tokens};
 use spans::{SPANS, size};
 
-// The verdict, with the refused line's number, or 0, and the list's number of entries.
+// The verdict, and the list's number of entries.
 #[derive(Clone, Copy)]
-pub struct PlacesReply {
-    pub answer: Answer,
-    pub line: usize,
+pub struct ListedPlaces {
+    pub verdict: Verdict,
     pub count: usize,
 }
 
-// A refused call lists no place.
-fn unlisted(f: Fault, line: usize) -> PlacesReply
-    ensures { result ≡ places_refusal f line }
+// The answer with a verdict whose list was given, or did not fit.
+fn reply(v: Verdict, l: Option<usize>) -> Result<ListedPlaces, Refusal>
+    ensures { result ≡ replied v l }
 {
-    PlacesReply {
-        answer: Answer::Refused(f),
-        line,
-        count: 0,
-    }
-}
-
-// The reply on a list that was given, or did not fit.
-fn reply(a: Answer, l: Listed) -> PlacesReply
-    ensures { result ≡ replied a l }
-{
-    if l.fits {
-        return PlacesReply {
-            answer: a,
-            line: 0,
-            count: l.count,
-        };
-    }
-    PlacesReply {
-        answer: Answer::Refused(Fault::FewRows),
-        line: 0,
-        count: 0,
+    match l {
+        Some(count) => Ok(ListedPlaces { verdict: v, count }),
+        None => Err(Fault::FewRows.into()),
     }
 }
 
 // The empty list: where there are not two trees.
-fn list_none(list: &mut [u8]) -> Listed
+fn list_none(list: &mut [u8]) -> Option<usize>
     ensures { NothingGiven list.old list.new result }
 {
     finish(list, begin())
 }
 
 // The list of a sentence that has two trees.
-fn list_two(words: &[u64], s: Sentence, g: Grammar, list: &mut [u8]) -> Listed
+fn list_two(words: &[u64], s: Sentence, g: Grammar, list: &mut [u8]) -> Option<usize>
     requires formed { Formed g }
     requires positioned { Positioned s }
-    requires span_sheet { SpanSheet (rulesOf g) (spelled s) words.now
-        × TwoTrees (rulesOf g) 0 (spelled s) }
-    ensures { PlacesGiven (rulesOf g) (spelled s) list.old list.new
+    requires span_sheet { SpanSheet (rules_of g) (spelled s) words.now
+        × TwoTrees (rules_of g) 0 (spelled s) }
+    ensures { PlacesGiven (rules_of g) (spelled s) list.old list.new
         result }
 {
     let mut parts = [0u64; SPANS];
@@ -78,45 +58,40 @@ fn list_two(words: &[u64], s: Sentence, g: Grammar, list: &mut [u8]) -> Listed
 }
 
 // The places of rules and a sentence that were read.
-fn listed(words: &mut [u64], s: Sentence, g: Grammar, list: &mut [u8]) -> PlacesReply
+fn listed(
+    words: &mut [u64],
+    s: Sentence,
+    g: Grammar,
+    list: &mut [u8],
+) -> Result<ListedPlaces, Refusal>
     requires formed { Formed g }
     requires positioned { Positioned s }
-    ensures { PlacesOn (rulesOf g) (spelled s) words.old words.new
+    ensures { PlacesOn (rules_of g) (spelled s) words.old words.new
         list.old list.new result }
 {
-    let n = s.count;
-    if words.len() < size(n) {
-        return unlisted(Fault::FewWords, 0);
+    if words.len() < size(s.count) {
+        return Err(Fault::FewWords.into());
     }
     let v = judge(words, s, g);
     match v {
-        Verdict::None => reply(Answer::None, list_none(list)),
-        Verdict::One => reply(Answer::One, list_none(list)),
-        Verdict::Two => reply(Answer::Two, list_two(words, s, g, list)),
+        Verdict::None => reply(v, list_none(list)),
+        Verdict::One => reply(v, list_none(list)),
+        Verdict::Two => reply(v, list_two(words, s, g, list)),
     }
 }
 
 // The verdict on a sentence, and all places at which its readings part, three bytes an entry, in
 // the lent bytes. The span sheet is filled.
-pub fn places(rules: &[u8], tokens: &[u8], words: &mut [u64], list: &mut [u8]) -> PlacesReply
+pub fn places(
+    rules: &[u8],
+    tokens: &[u8],
+    words: &mut [u64],
+    list: &mut [u8],
+) -> Result<ListedPlaces, Refusal>
     ensures { PlacesOf rules.now tokens.now words.old
         words.new list.old list.new result }
 {
-    let a = read_rules(rules);
-    let o = a.outcome;
-    match o {
-        Outcome::Refused(f, l) => unlisted(f, l),
-        Outcome::Accepted => {
-            let b = read_tokens(tokens);
-            let p = b.outcome;
-            match p {
-                Outcome::Refused(f, l) => unlisted(f, l),
-                Outcome::Accepted => {
-                    let g = a.grammar;
-                    let s = b.sentence;
-                    listed(words, s, g, list)
-                }
-            }
-        }
-    }
+    let book = read_rules(rules)?;
+    let s = read_tokens(tokens)?;
+    listed(words, s, book.grammar, list)
 }

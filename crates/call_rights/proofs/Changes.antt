@@ -3,7 +3,8 @@ use mathlib.Core.Path.{◌≡◌, refl, sym, ap, ◌∙◌}
 use mathlib.Core.Logic.{◌⊎◌, inl, inr}
 use mathlib.Core.Bool.{Bool, true, false}
 use mathlib.Core.List.{List, [], ◌∷◌, ◌++◌}
-use mathlib.Core.Option.{Option, none, some}
+use mathlib.Core.Option.{some}
+use Rattle.std.specs.Prelude.{Option, None, Some}
 use Prim.Native.Nat.{ℕ, zero, suc, ◌+◌, ◌-◌, ◌≤◌, ◌<◌}
 use native.Mathlib.Omega.{arith}
 use lib.ListN.{length, get_or, get_elem?}
@@ -20,25 +21,23 @@ use Rattle.grammar.proofs.Lists.{mem_every, get_elem?_take}
 use Rattle.grammar.proofs.ByKind.{get_elem?_lt}
 use Rattle.grammar.proofs.ChoiceLaws.{member_at}
 use Rattle.fields.specs.declared.Lay.{Lay}
-use Rattle.fields.specs.declared.LayWord.{LayWord}
 use Rattle.fields.specs.Words.{lay_of}
-use Rattle.fields.specs.Answers.{as_lay}
-use Rattle.lines.specs.declared.RuleLine.{RuleLine}
+use Rattle.std.specs.Prelude.{Result, Ok, Err}
+use Rattle.lines.specs.declared.RuleFault.{RuleFault}
 use Rattle.sheets.specs.declared.Fault.TheVariants as Fault
 use Rattle.sheets.specs.Items.{accepted, refused}
 use Rattle.sheets.specs.RuleSheets.{rule_sheet}
 use Rattle.tree_view.specs.Shown.{View}
 use Rattle.tree_view.proofs.Members.{member_says}
 use Rattle.mark_change.specs.Changed.{changed, changed_sheet, read_changed}
-use Rattle.lists.specs.declared.Listed.{Listed}
 use Rattle.lists.specs.Lists.{GivesList}
 use Rattle.lists.specs.Putting.{listed}
 use Rattle.lists.specs.Putting as Putting
-use Rattle.sheets.specs.declared.Answer.TheVariants as Answer
+use Rattle.sheets.specs.Results.{refusal}
 use Rattle.list_answers.proofs.ListSettled.{list_on}
 use Rattle.mark_change.proofs.Rereading.{outcome}
 use Rattle.mark_change.proofs.ChangedLaws.{ChangedAt, changed_at}
-use Rattle.call_rights.specs.Change.{change_refusal, MayRule, ChangeDone, unfit, given}
+use Rattle.call_rights.specs.Change.{MayRule, ChangeDone, unfit, given}
 use Rattle.call_rights.specs.Change.{ChangeOn, barred}
 use Rattle.call_rights.specs.Inner.{Named}
 use Rattle.tree_view.specs.Members.{member}
@@ -47,8 +46,8 @@ use Rattle.list_answers.specs.ListReplies.{on_list}
 
 -- 1. whether the lay fits
 
-abbrev Good : RuleLine → Type 0
-Good x = (q : Rule) × (x ≡ RuleLine.Good q)
+abbrev Good : Result Rule RuleFault → Type 0
+Good x = (q : Rule) × (x ≡ Ok q)
 
 relaid_good : (l : ℕ) (c : Clause) (y : Lay) → fits_lay c y ≡ true → Good (relaid l c y)
 relaid_good l Clause.Empty Lay.None e = (_, refl)
@@ -76,7 +75,8 @@ relaid_good l (Clause.Binary a b m) Lay.Single e = absurd (true_not_false (sym e
 relaid_good l (Clause.Binary a b m) Lay.Align e = (_, refl)
 relaid_good l (Clause.Binary a b m) Lay.Indent e = (_, refl)
 
-relaid_unfit : (l : ℕ) (c : Clause) (y : Lay) → fits_lay c y ≡ false → relaid l c y ≡ RuleLine.Unfit
+relaid_unfit : (l : ℕ) (c : Clause) (y : Lay) → fits_lay c y ≡ false
+    → relaid l c y ≡ (Err RuleFault.Unfit)
 relaid_unfit l c Lay.None e = absurd (true_not_false e)
 relaid_unfit l Clause.Empty Lay.Offside e = refl
 relaid_unfit l Clause.Empty Lay.Offalign e = refl
@@ -101,36 +101,28 @@ relaid_unfit l (Clause.Binary a b m) Lay.Indent e = absurd (true_not_false e)
 
 -- 2. the new mark's bytes
 
-word_is : (o : Option Lay) (y : Lay) → LayWord.Is y ≡ as_lay o → o ≡ some y
-word_is (some z) y e = cc
-word_is none y e = absurd (clash cc)
-
-word_not : (o : Option Lay) → LayWord.Not ≡ as_lay o → o ≡ none
-word_not (some z) e = absurd (clash cc)
-word_not none e = refl
-
 module _ (s : List ℕ) (p : ℕ) (c : Clause) (n : Named s p c) (lay : List ℕ) where
   -- no word of lay
-  pub done_form : LayWord.Not ≡ as_lay (lay_of lay) → (bytes : List ℕ)
-      → ChangeDone s p lay bytes bytes (change_refusal Fault.RuleForm (p + 1))
+  pub done_form : None ≡ lay_of lay → (bytes : List ℕ)
+      → ChangeDone s p lay bytes bytes (refusal Fault.RuleForm (p + 1))
   done_form e bytes =
-      unfit (record { is = ap (read_changed s p lay) (word_not (lay_of lay) e) }) refl refl
+      unfit (record { is = ap (read_changed s p lay) (sym e) }) refl refl
 
-  module _ (y : Lay) (is : LayWord.Is y ≡ as_lay (lay_of lay)) where
-    word : lay_of lay ≡ some y
-    word = word_is (lay_of lay) y is
+  module _ (y : Lay) (is : Some y ≡ lay_of lay) where
+    word : lay_of lay ≡ Some y
+    word = sym is
 
-    reads : (x : RuleLine) → relaid n.at.rule.left n.at.rule.clause y ≡ x
+    reads : (x : Result Rule RuleFault) → relaid n.at.rule.left n.at.rule.clause y ≡ x
         → changed_sheet s p lay ≡ outcome n.at.front n.at.back x
     reads x e = ap (read_changed s p lay) word ∙ n.at.reads lay y word
         ∙ ap (outcome n.at.front n.at.back) e
 
     pub done_lay : fits_lay c y ≡ false → (bytes : List ℕ)
-        → ChangeDone s p lay bytes bytes (change_refusal Fault.RuleLay (p + 1))
+        → ChangeDone s p lay bytes bytes (refusal Fault.RuleLay (p + 1))
     done_lay e bytes =
         let f : length n.at.front + 2 ≡ p + 1 = omega (arith, n.at.place) in
         unfit (record {
-          is = reads RuleLine.Unfit
+          is = reads (Err RuleFault.Unfit)
               (relaid_unfit n.at.rule.left n.at.rule.clause y
               (ap (λ (x : Clause). fits_lay x y) (sym n.is) ∙ e)) ∙ ap (refused 4) f;
         }) refl
@@ -140,17 +132,17 @@ module _ (s : List ℕ) (p : ℕ) (c : Clause) (n : Named s p c) (lay : List ℕ
     good e =
         let q = relaid_good n.at.rule.left n.at.rule.clause y
         (ap (λ (x : Clause). fits_lay x y) (sym n.is) ∙ e) in
-        (n.at.front ++ q.0 ∷ n.at.back, reads (RuleLine.Good q.0) q.1)
+        (n.at.front ++ q.0 ∷ n.at.back, reads (Ok q.0) q.1)
 
-    pub done_listed : fits_lay c y ≡ true → (bytes bytes' : List ℕ) (l : Listed)
+    pub done_listed : fits_lay c y ≡ true → (bytes bytes' : List ℕ) (l : Option ℕ)
         → GivesList listed Putting.unfit (changed s p lay) (length (changed s p lay)) bytes bytes' l
-        → ChangeDone s p lay bytes bytes' (on_list Answer.Given l)
+        → ChangeDone s p lay bytes bytes' (on_list l)
     done_listed e bytes bytes' l x = given (good e).1 (list_on x)
 
 -- 3. which refusals the changed sheet can get: 2 and 4 in that rule's line, no other
 
-lay_refused : (front back : Rules) (x : RuleLine) (p : ℕ) → length front + 1 ≡ p
-    → (Good x ⊎ (x ≡ RuleLine.Unfit)) → {n l : ℕ} → outcome front back x ≡ refused n l
+lay_refused : (front back : Rules) (x : Result Rule RuleFault) (p : ℕ) → length front + 1 ≡ p
+    → (Good x ⊎ (x ≡ (Err RuleFault.Unfit))) → {n l : ℕ} → outcome front back x ≡ refused n l
     → (n ≡ 4) × (l ≡ p + 1)
 lay_refused front back x p h (inl q) e = absurd
     (let k = q.1 in let j : outcome front back x ≡ accepted (front ++ q.0 ∷ back) =
@@ -167,14 +159,14 @@ changed_refused s g p c lay {n} {l} e = go (lay_of lay) refl e
   where
     fits_or_not : (y : Lay) (b : Bool) → fits_lay c.rule.clause y ≡ b
         → Good (relaid c.rule.left c.rule.clause y)
-        ⊎ (relaid c.rule.left c.rule.clause y ≡ RuleLine.Unfit)
+        ⊎ (relaid c.rule.left c.rule.clause y ≡ (Err RuleFault.Unfit))
     fits_or_not y true h = inl (relaid_good c.rule.left c.rule.clause y h)
     fits_or_not y false h = inr (relaid_unfit c.rule.left c.rule.clause y h)
 
     go : (o : Option Lay) → lay_of lay ≡ o → read_changed s p lay o ≡ refused n l
         → ((n ≡ 2) ⊎ (n ≡ 4)) × (l ≡ p + 1)
-    go none h e = let a : ◌≡◌ {A = ℕ} 2 n = cc in let b : p + 1 ≡ l = cc in (inl (sym a), sym b)
-    go (some y) h e =
+    go None h e = let a : ◌≡◌ {A = ℕ} 2 n = cc in let b : p + 1 ≡ l = cc in (inl (sym a), sym b)
+    go (Some y) h e =
         let r = lay_refused c.front c.back (relaid c.rule.left c.rule.clause y) p
         c.place (fits_or_not y (fits_lay c.rule.clause y) refl)
         (sym (c.reads lay y h) ∙ e) in (inr r.0, r.1)
@@ -194,14 +186,14 @@ get_elem?_get_d (x ∷ l) zero r d e = cc
 get_elem?_get_d (x ∷ l) (suc i) r d e = get_elem?_get_d l i r d e
 
 pub barred_zero : (may : View) (s : List ℕ) (g : Rules) (p : ℕ) (lay bytes : List ℕ) → p ≡ 0
-    → ChangeOn may s g p lay bytes bytes (change_refusal Fault.NoRight 0)
+    → ChangeOn may s g p lay bytes bytes (refusal Fault.NoRight 0)
 barred_zero may s g p lay bytes e = barred (λ m. omega (arith, m.low)) refl refl refl
 
 module _ {g : Grammar} (f : Formed g) (s : List ℕ) (e : rule_sheet s ≡ accepted (rules_of g))
     (may : ℕ)
     (p : ℕ) (lay bytes : List ℕ) where
   pub barred_past : g.count < p → ChangeOn (member may) s (rules_of g) p lay bytes bytes
-      (change_refusal Fault.NoRight 0)
+      (refusal Fault.NoRight 0)
   barred_past h = barred (λ m. let l = get_elem?_lt (rules_of g) (p - 1) m.stands in
       omega (arith, f.whole, m.low)) refl refl refl
 
@@ -239,7 +231,7 @@ module _ {g : Grammar} (f : Formed g) (s : List ℕ) (e : rule_sheet s ≡ accep
     same_rule r k = let j = stands in cc
 
     pub read_barred : {b : Bool} → b ≡ false → Says b (In may (get_or g.rules (p - 1) d).left)
-        → ChangeOn (member may) s (rules_of g) p lay bytes bytes (change_refusal Fault.NoRight 0)
+        → ChangeOn (member may) s (rules_of g) p lay bytes bytes (refusal Fault.NoRight 0)
     read_barred h x =
         barred (λ m. true_not_false (sym m.left ∙ ap (λ (r : Rule). member may r.left)
         (sym (same_rule m.rule m.stands)) ∙ sym

@@ -17,20 +17,22 @@ use Rattle.sheets.proofs.Once.{apart, same_items}
 use Rattle.sheets.proofs.Numbers.{same_fault}
 use Rattle.rights.specs.declared.Right.{Right}
 use Rattle.rights.specs.RightSheets.{rights_sheet, may_see_of}
-use Rattle.sheets.specs.declared.Answer.TheVariants as Answer
-use Rattle.answering.specs.declared.TreesReply.{TreesReply}
+use Rattle.std.specs.Prelude.{Result}
+use Rattle.sheets.specs.declared.Refusal.{Refusal}
+use Rattle.answering.specs.declared.TreeRows.{TreeRows}
+use Rattle.sheets.specs.Results.{refusal}
 use Rattle.answering.specs.Answers.{sheets}
-use Rattle.answering.specs.Trees.{trees_reply_of, TreesOn, short, showing}
+use Rattle.answering.specs.Trees.{TreesOn, short, showing}
 use Rattle.answering.proofs.Settled.{Same, SameTrees, same_sheets, shown_same}
 use Rattle.call_rights.specs.Alike.{Alike}
 use Rattle.call_rights.specs.Show.{ShowOf, refusing, barring, reading}
 
 on_same : (dis : Display) {g g' : Rules} {w : Word} → SameTrees dis g g' w w
-    → {ws vs a b one two m m' n n' : List ℕ} {r s : TreesReply} → length ws ≡ length vs
+    → {ws vs a b one two m m' n n' : List ℕ} {r s : Result TreeRows Refusal} → length ws ≡ length vs
     → TreesOn dis g w ws a one m two n r → TreesOn dis g' w vs b one m' two n' s
     → Same m m' n n' r s
 on_same dis A e (short {f = f} u v x h i j) (short {f = f'} p q y k l o) = (
-  x ∙ ap (λ (z : Fault). trees_reply_of (Answer.Refused z) 0 0 0) (same_fault f f' 21 v q)
+  x ∙ ap (λ (z : Fault). refusal z 0) (same_fault f f' 21 v q)
       ∙ sym y,
   (i ∙ sym l, j ∙ sym o),
 )
@@ -65,7 +67,7 @@ pub nothing_leaks : {rules rules' tokens rights : List ℕ} {user : ℕ} {g g' :
     {rs : List Right}
     → sheets rules tokens ≡ accepted (g, w) → sheets rules' tokens ≡ accepted (g', w)
     → rights_sheet rights ≡ accepted rs → Alike (may_see_of rs user) g g' w w
-    → {ws vs a b one two m m' n n' : List ℕ} {r s : TreesReply} → length ws ≡ length vs
+    → {ws vs a b one two m m' n n' : List ℕ} {r s : Result TreeRows Refusal} → length ws ≡ length vs
     → ShowOf rules tokens rights user ws a one m two n r
     → ShowOf rules' tokens rights user vs b one m' two n' s → Same m m' n n' r s
 nothing_leaks p q t A e (refusing d x h i j) z = absurd (apart d p)

@@ -10,7 +10,9 @@ use Rattle.sheets.specs.Items.{accepted}
 use Rattle.sheets.proofs.Once.{apart, same_items}
 use Rattle.sheets.specs.RuleSheets.{rule_sheet}
 use Rattle.sheets.proofs.Accepted.{rules_good}
-use Rattle.answering.specs.declared.TreesReply.{TreesReply}
+use Rattle.std.specs.Prelude.{Result}
+use Rattle.sheets.specs.declared.Refusal.{Refusal}
+use Rattle.answering.specs.declared.TreeRows.{TreeRows}
 use Rattle.answering.specs.Trees.{TreesOf}
 use Rattle.answering.specs.Trees as Trees
 use Rattle.answering.proofs.Settled.{both_sheets}
@@ -21,7 +23,7 @@ use Rattle.call_rights.specs.Show.{ShowOf, refusing, barring, reading}
 -- `trees`
 pub open_show : {rules tokens rights : List ℕ} {user : ℕ} {rs : List Right}
     → rights_sheet rights ≡ accepted rs → ((A : ℕ) → A < 64 → may_see_of rs user A ≡ true)
-    → {words words' one one' two two' : List ℕ} {r : TreesReply}
+    → {words words' one one' two two' : List ℕ} {r : Result TreeRows Refusal}
     → ShowOf rules tokens rights user words words' one one' two two' r
     → TreesOf rules tokens words words' one one' two two' r
 open_show e all (refusing d x h i j) = Trees.refusing d x h i j

@@ -11,8 +11,10 @@ use Rattle.sheets.specs.declared.Fault.{Fault}
 use Rattle.sheets.proofs.Once.{apart, same_items, same_refusal}
 use Rattle.sheets.proofs.Numbers.{same_fault}
 use Rattle.rights.specs.RightSheets.{may_see_of}
-use Rattle.answering.specs.declared.TreesReply.{TreesReply}
-use Rattle.list_answers.specs.declared.ListReply.{ListReply}
+use Rattle.std.specs.Prelude.{Result}
+use Rattle.sheets.specs.declared.Refusal.{Refusal}
+use Rattle.answering.specs.declared.TreeRows.{TreeRows}
+use Rattle.sheets.specs.Results.{refusal}
 use Rattle.answering.proofs.Settled.{Words, Same, same_sheets, sheets_apart, trees_on}
 use Rattle.list_answers.proofs.ListSettled.{list_settled}
 use Rattle.answering.proofs.Lent.{SameRows, refusal_rows, trees_on_reply}
@@ -20,14 +22,14 @@ use Rattle.list_answers.proofs.ListSettled.{SameBytes, bytes_same}
 use Rattle.list_answers.proofs.ListSettled.{refusal_bytes, list_moved}
 use Rattle.call_rights.specs.Show.{ShowOf}
 use Rattle.call_rights.specs.Show as Show
-use Rattle.call_rights.specs.Change.{change_refusal, ChangeDone, unfit, given, ChangeOn}
+use Rattle.call_rights.specs.Change.{ChangeDone, unfit, given, ChangeOn}
 use Rattle.call_rights.specs.Change.{barred, allowed, ChangeOf}
 use Rattle.call_rights.specs.Change as Change
 
 -- 1. show
 
 pub show_settled : {rules tokens rights : List ℕ} {user : ℕ} {ws a b one two m m' n n' : List ℕ}
-    {r s : TreesReply} → Words a → Words b
+    {r s : Result TreeRows Refusal} → Words a → Words b
     → ShowOf rules tokens rights user ws a one m two n r
     → ShowOf rules tokens rights user ws b one m' two n' s → (a ≡ b) × Same m m' n n' r s
 show_settled p q (Show.refusing e x h i j) (Show.refusing d y k l o) =
@@ -51,7 +53,7 @@ show_settled {rules = rules} {tokens = tokens} {user = user} p q
 
 -- 2. change
 
-done_settled : {rules : List ℕ} {p : ℕ} {lay bytes a b : List ℕ} {r s : ListReply}
+done_settled : {rules : List ℕ} {p : ℕ} {lay bytes a b : List ℕ} {r s : Result ℕ Refusal}
     → ChangeDone rules p lay bytes a r → ChangeDone rules p lay bytes b s → (r ≡ s) × (a ≡ b)
 done_settled (unfit e x h) (unfit d y k) = let z = same_refusal e d in
     (x ∙ rw (z.0, z.1) (sym y), h ∙ sym k)
@@ -60,15 +62,17 @@ done_settled (given d y) (unfit e x h) = absurd (apart e d)
 done_settled (given e x) (given d y) = list_settled x y
 
 change_on : {may : View} {rules : List ℕ} {g : Rules} {p : ℕ} {lay bytes a b : List ℕ}
-    {r s : ListReply} → ChangeOn may rules g p lay bytes a r → ChangeOn may rules g p lay bytes b s
+    {r s : Result ℕ Refusal} → ChangeOn may rules g p lay bytes a r
+    → ChangeOn may rules g p lay bytes b s
     → (r ≡ s) × (a ≡ b)
 change_on (barred {f = f} m n x h) (barred {f = f'} q o y k) =
-    (x ∙ ap (λ (z : Fault). change_refusal z 0) (same_fault f f' 51 n o) ∙ sym y, h ∙ sym k)
+    (x ∙ ap (λ (z : Fault). refusal z 0) (same_fault f f' 51 n o) ∙ sym y, h ∙ sym k)
 change_on (barred m n x h) (allowed q y) = absurd (m q)
 change_on (allowed q y) (barred m n x h) = absurd (m q)
 change_on (allowed m x) (allowed q y) = done_settled x y
 
-pub change_settled : {rules rights : List ℕ} {user p : ℕ} {lay bytes a b : List ℕ} {r s : ListReply}
+pub change_settled : {rules rights : List ℕ} {user p : ℕ} {lay bytes a b : List ℕ}
+    {r s : Result ℕ Refusal}
     → ChangeOf rules rights user p lay bytes a r → ChangeOf rules rights user p lay bytes b s
     → (r ≡ s) × (a ≡ b)
 change_settled (Change.refusing e x h) (Change.refusing d y k) = let z = same_refusal e d in
@@ -91,7 +95,7 @@ change_settled (Change.reading e f x) (Change.reading d c y) =
 
 module _ {ws vs one one₂ two two₂ : List ℕ} (e : length ws ≡ length vs)
     (d : length one ≡ length one₂) (c : length two ≡ length two₂) {a b m m' n n' : List ℕ}
-    {r s : TreesReply} where
+    {r s : Result TreeRows Refusal} where
   pub show_reply : {rules tokens rights : List ℕ} {user : ℕ}
       → ShowOf rules tokens rights user ws a one m two n r
       → ShowOf rules tokens rights user vs b one₂ m' two₂ n' s → SameRows m m' n n' r s
@@ -114,7 +118,8 @@ module _ {ws vs one one₂ two two₂ : List ℕ} (e : length ws ≡ length vs)
       x (rw (← z.0, ← z.1, ← v) at y)
 
 -- the same reply, and the same bytes, as many as it counts
-module _ {out other : List ℕ} (e : length out ≡ length other) {m n : List ℕ} {r s : ListReply} where
+module _ {out other : List ℕ} (e : length out ≡ length other) {m n : List ℕ}
+    {r s : Result ℕ Refusal} where
   done_reply : {rules : List ℕ} {p : ℕ} {lay : List ℕ} → ChangeDone rules p lay out m r
       → ChangeDone rules p lay other n s → SameBytes m n r s
   done_reply (unfit q x h) (unfit d y k) = refusal_bytes m n (same_refusal q d) x y

@@ -3,36 +3,22 @@
 #![tactic(auto)]
 
 ghost use Rattle.std.specs.Prelude.{◌≡◌, ◌≤◌};
-ghost use Rattle.grammar.specs.Content.{rules_of as rulesOf, Formed};
+ghost use Rattle.grammar.specs.Content.{rules_of, Formed};
 ghost use Rattle.sheets.specs.Items.{accepted};
 ghost use Rattle.sheets.specs.RuleSheets.{rule_sheet};
-ghost use Rattle.answering.specs.Trees as Trees;
-ghost use Rattle.sheets.specs.declared.Answer.TheVariants as Answers;
 ghost use Rattle.call_rights.specs.Show.{ShowOf};
-ghost use Rattle.call_rights.specs.Change.{change_refusal, ChangeDone, ChangeOn, ChangeOf};
+ghost use Rattle.call_rights.specs.Change.{ChangeDone, ChangeOn, ChangeOf};
 ghost use Rattle.call_rights.specs.Inner.{Named};
 ghost use Rattle.tree_view.specs.Members.{member};
 
-use answering::{TreesReply, shown};
-use fields::{LayWord, lay_word};
+use answering::{TreeRows, shown};
+use fields::{Lay, Readable};
 use grammar::{Clause, Grammar};
-use list_answers::{ListReply, list_reply};
+use list_answers::given;
 use mark_change::{lay_fits, put_changed};
 use rights::read_rights;
 use sets::has;
-use sheets::{Answer, Fault, Outcome, read_rules, read_tokens};
-
-// A refused call for trees.
-fn refused_trees(f: Fault, line: usize) -> TreesReply
-    ensures { result ≡ Trees.trees_reply_of (Answers.Refused f) line 0 0 }
-{
-    TreesReply {
-        answer: Answer::Refused(f),
-        line,
-        first: 0,
-        second: 0,
-    }
-}
+use sheets::{Fault, Refusal, read_rules, read_tokens};
 
 // The verdict on a sentence, and its one or two trees as the user may see them: a node outside the
 // user's ranges is one row of kind 4.
@@ -44,62 +30,43 @@ pub fn show(
     words: &mut [u64],
     first: &mut [u8],
     second: &mut [u8],
-) -> TreesReply
+) -> Result<TreeRows, Refusal>
     ensures { ShowOf rules.now tokens.now rights.now user
         words.old words.new first.old first.new
         second.old second.new result }
 {
-    let a = read_rules(rules);
-    let o = a.outcome;
-    match o {
-        Outcome::Refused(f, l) => refused_trees(f, l),
-        Outcome::Accepted => {
-            let b = read_tokens(tokens);
-            let p = b.outcome;
-            match p {
-                Outcome::Refused(f, l) => refused_trees(f, l),
-                Outcome::Accepted => {
-                    let c = read_rights(rights, user);
-                    let q = c.outcome;
-                    match q {
-                        Outcome::Refused(f, l) => refused_trees(f, l),
-                        Outcome::Accepted => {
-                            let g = a.grammar;
-                            let s = b.sentence;
-                            shown(words, s, g, c.sees, first, second)
-                        }
-                    }
-                }
-            }
-        }
-    }
-}
-
-// A refused change.
-fn refuse(f: Fault, line: usize) -> ListReply
-    ensures { result ≡ change_refusal f line }
-{
-    ListReply {
-        answer: Answer::Refused(f),
-        line,
-        count: 0,
-    }
+    let book = read_rules(rules)?;
+    let s = read_tokens(tokens)?;
+    let granted = read_rights(rights, user)?;
+    shown(words, s, book.grammar, granted.sees, first, second)
 }
 
 // The new mark of a rule that may be changed: 2 and 4 in its line, else the changed sheet.
-fn marked(rules: &[u8], c: Clause, rule: usize, lay: &[u8], bytes: &mut [u8]) -> ListReply
+fn marked(
+    rules: &[u8],
+    c: Clause,
+    rule: usize,
+    lay: &[u8],
+    bytes: &mut [u8],
+) -> Result<usize, Refusal>
     requires named { Named rules.now rule c }
     requires rule_bound { rule ≤ 128 }
     ensures { ChangeDone rules.now rule lay.now bytes.old
         bytes.new result }
 {
-    match lay_word(lay) {
-        LayWord::Not => refuse(Fault::RuleForm, rule + 1),
-        LayWord::Is(y) => {
+    match Lay::of(lay) {
+        None => Err(Refusal {
+            fault: Fault::RuleForm,
+            line: rule + 1,
+        }),
+        Some(y) => {
             if lay_fits(c, y) {
-                return list_reply(Answer::Given, put_changed(rules, rule, lay, bytes));
+                return given(put_changed(rules, rule, lay, bytes));
             }
-            refuse(Fault::RuleLay, rule + 1)
+            Err(Refusal {
+                fault: Fault::RuleLay,
+                line: rule + 1,
+            })
         }
     }
 }
@@ -112,17 +79,17 @@ fn changed_to(
     rule: usize,
     lay: &[u8],
     bytes: &mut [u8],
-) -> ListReply
+) -> Result<usize, Refusal>
     requires formed { Formed g }
-    requires rules_value { rule_sheet rules.now ≡ accepted (rulesOf g) }
-    ensures { ChangeOn (member changes) rules.now (rulesOf g) rule
+    requires rules_value { rule_sheet rules.now ≡ accepted (rules_of g) }
+    ensures { ChangeOn (member changes) rules.now (rules_of g) rule
         lay.now bytes.old bytes.new result }
 {
     if rule == 0 {
-        return refuse(Fault::NoRight, 0);
+        return Err(Fault::NoRight.into());
     }
     if g.count < rule {
-        return refuse(Fault::NoRight, 0);
+        return Err(Fault::NoRight.into());
     }
     let i = rule - 1;
     let r = g.rules[i];
@@ -130,7 +97,7 @@ fn changed_to(
         let c = r.clause;
         return marked(rules, c, rule, lay, bytes);
     }
-    refuse(Fault::NoRight, 0)
+    Err(Fault::NoRight.into())
 }
 
 // A rule sheet with another mark in the rule at a place, counted from 1, as a list of its bytes, if
@@ -142,24 +109,11 @@ pub fn change(
     rule: usize,
     lay: &[u8],
     bytes: &mut [u8],
-) -> ListReply
+) -> Result<usize, Refusal>
     ensures { ChangeOf rules.now rights.now user rule
         lay.now bytes.old bytes.new result }
 {
-    let a = read_rules(rules);
-    let o = a.outcome;
-    match o {
-        Outcome::Refused(f, l) => refuse(f, l),
-        Outcome::Accepted => {
-            let c = read_rights(rights, user);
-            let q = c.outcome;
-            match q {
-                Outcome::Refused(f, l) => refuse(f, l),
-                Outcome::Accepted => {
-                    let g = a.grammar;
-                    changed_to(rules, g, c.changes, rule, lay, bytes)
-                }
-            }
-        }
-    }
+    let book = read_rules(rules)?;
+    let granted = read_rights(rights, user)?;
+    changed_to(rules, book.grammar, granted.changes, rule, lay, bytes)
 }

@@ -20,18 +20,18 @@ use Rattle.sheets.specs.Items.{accepted}
 use Rattle.sheets.proofs.Once.{apart, same_items, same_refusal}
 use Rattle.sheets.specs.RuleSheets.{rule_sheet}
 use Rattle.sheets.proofs.Accepted.{rules_good}
-use Rattle.sheets.specs.declared.Answer.TheVariants as Answer
+use Rattle.std.specs.Prelude.{Some}
+use Rattle.sheets.specs.Results.{refusal}
 use Rattle.sheets.proofs.Numbers.{same_fault}
-use Rattle.call_shares.specs.declared.ShareReply.{ShareReply}
-use Rattle.call_shares.specs.Share.{share_reply_of, share_refusal, ShareTaken, ShareOn, bound}
+use Rattle.call_shares.specs.Share.{ShareResult, share_reply_of, ShareTaken, ShareOn, bound}
 use Rattle.call_shares.specs.Share.{many, racks, beyond, short, clear, two, ShareOf, refusing}
 use Rattle.call_shares.specs.Share.{reading}
 
-refusal_same : {f f' : Fault} {a b ws : List ℕ} {r s : ShareReply} (n : ℕ) → number_of f ≡ n
-    → number_of f' ≡ n → r ≡ share_refusal f 0 → s ≡ share_refusal f' 0 → a ≡ ws → b ≡ ws
+refusal_same : {f f' : Fault} {a b ws : List ℕ} {r s : ShareResult} (n : ℕ) → number_of f ≡ n
+    → number_of f' ≡ n → r ≡ refusal f 0 → s ≡ refusal f' 0 → a ≡ ws → b ≡ ws
     → (r ≡ s) × (a ≡ b)
 refusal_same {f} {f'} n m o x y h k =
-    (x ∙ ap (λ (z : Fault). share_refusal z 0) (same_fault f f' n m o) ∙ sym y, h ∙ sym k)
+    (x ∙ ap (λ (z : Fault). refusal z 0) (same_fault f f' n m o) ∙ sym y, h ∙ sym k)
 
 -- outside lo to hi
 pub off : {lo hi k : ℕ} → (k < lo) ⊎ (hi < k) → lo ≤ k → k ≤ hi → ⊥
@@ -56,7 +56,7 @@ never_both : {g : Rules} {n lo hi : ℕ} {cs : List Cell} → NoneIn g n lo hi �
 never_both {g} {n} {lo} {hi} {cs} c f = c.absent cs f.candidate f.low f.high f.two
 
 module _ (g : Rules) (small : (x : ℕ) → Terminal g x → x < 64) (n p i : ℕ) where
-  share_on : {ws a b : List ℕ} {r s : ShareReply} → ShareOn g n p i ws a r → ShareOn g n p i ws b s
+  share_on : {ws a b : List ℕ} {r s : ShareResult} → ShareOn g n p i ws a r → ShareOn g n p i ws b s
       → (r ≡ s) × (a ≡ b)
   share_on (bound l m x h) (bound k o y e) = refusal_same 23 m o x y h e
   share_on (bound l m x h) (many k u o q y e) = absurd (off l k u)
@@ -107,8 +107,8 @@ module _ (g : Rules) (small : (x : ℕ) → Terminal g x → x < 64) (n p i : �
   share_on (two t c y e) (short k u o q v w x h) = absurd (omega (arith, t.enough))
   share_on (two t c y e) (clear u d x h) = absurd (never_both d c)
   share_on (two {cs = cs} t c y e) (two {cs = ds} u d x h) = (
-    y ∙ ap (λ (z : List Cell). share_reply_of Answer.Two (number g n z) (total g n / p)
-        (total g n % p) (sentence z)) (lowest_same g small c d) ∙ sym x,
+    y ∙ ap (λ (z : List Cell). share_reply_of (number g n z) (total g n / p)
+        (total g n % p) (Some (sentence z))) (lowest_same g small c d) ∙ sym x,
     e ∙ sym h,
   )
 
@@ -119,7 +119,7 @@ small_terminals rules g e x t = let h = t.1 in
     let s = (mem_every SmallRule g (rules_good rules g e).small h.rule).clause in
     omega (arith, h.covers.high, s.1)
 
-pub share_settled : (rules : List ℕ) (n p i : ℕ) {ws a b : List ℕ} {r s : ShareReply}
+pub share_settled : (rules : List ℕ) (n p i : ℕ) {ws a b : List ℕ} {r s : ShareResult}
     → ShareOf rules n p i ws a r → ShareOf rules n p i ws b s → (r ≡ s) × (a ≡ b)
 share_settled rules n p i (refusing e x h) (refusing d y k) = let z = same_refusal e d in
     (x ∙ rw (z.0, z.1) (sym y), h ∙ sym k)
@@ -140,7 +140,7 @@ module _ {ws vs : List ℕ} (e : length ws ≡ length vs) where
     enough = omega (arith, t.enough);
   }
 
-  pub share_reply : (rules : List ℕ) (n p i : ℕ) {a b : List ℕ} {r s : ShareReply}
+  pub share_reply : (rules : List ℕ) (n p i : ℕ) {a b : List ℕ} {r s : ShareResult}
       → ShareOf rules n p i ws a r → ShareOf rules n p i vs b s → r ≡ s
   share_reply rules n p i (refusing d x h) y = (share_settled rules n p i (refusing d x refl) y).0
   share_reply rules n p i (reading d (bound l m x h)) y =

@@ -2,10 +2,10 @@
 use mathlib.Core.Path.{◌≡◌, sym, ap, ◌∙◌}
 use mathlib.Core.List.{List, ◌++◌}
 use Prim.Native.Nat.{ℕ, suc, ◌+◌, ◌-◌, ◌/◌, ◌%◌, ◌^◌, ◌<◌}
-use native.Mathlib.Omega.{arith}
 use native.Mathlib.Numerals.{add-one}
 use lib.Count.{ones}
 use lib.ListN.{length, replicate}
+use Rattle.grammar.specs.declared.Cell.{Cell}
 use Rattle.grammar.specs.declared.Sentence.{Sentence}
 use Rattle.grammar.specs.Trees.{Rules}
 use Rattle.grammar.specs.Candidates.{sentence}
@@ -14,12 +14,10 @@ use Rattle.grammar.proofs.SweepLaws.{sentence_length}
 use Rattle.candidates.specs.Terminals.{Terminals}
 use Rattle.candidates.proofs.Counting.{counted}
 use Rattle.arrangement_numbers.specs.Numbers.{number}
-use Rattle.arrangement_numbers.specs.Shares.{first_of_share, total}
-use Rattle.share_search.specs.Sharing.{Shared}
-use Rattle.share_search.specs.Sharing as Of
-use Rattle.sheets.specs.declared.Answer.{Answer}
-use Rattle.call_shares.specs.declared.ShareReply.{ShareReply}
-use Rattle.call_shares.specs.Share.{share_reply_of, ShareTaken, ShareOn, clear, two}
+use Rattle.arrangement_numbers.specs.Shares.{first_of_share, total, NoneIn}
+use Rattle.share_search.specs.Sharing.{SharedTwo}
+use Rattle.std.specs.Prelude.{None, Some, Ok}
+use Rattle.call_shares.specs.Share.{ShareResult, share_reply_of, ShareTaken, ShareOn, clear, two}
 use Rattle.grammar.specs.Sentences.{no_token}
 use Rattle.sweeping.specs.Cleared.{cleared}
 
@@ -28,14 +26,12 @@ pub total_of : (g : Rules) (s n : ℕ) → s < 2 ^ 64 → Terminals g s
     → arrangements (ones s) n ≡ total g n
 total_of g s n h t = ap (λ (x : ℕ). arrangements x n) ((counted s h).terminals g t)
 
-abbrev with : Answer → ℕ → ℕ → ℕ → Sentence → ShareReply
-with a N q r s =
-    record { answer = a; line = 0; number = N; quotient = q; remainder = r; sentence = s }
+abbrev with : ℕ → ℕ → ℕ → Sentence → ShareResult
+with N q r s = Ok (record { number = N; quotient = q; remainder = r; sentence = Some s })
 
 module _ {g : Rules} {n p i : ℕ} {ws ws' : List ℕ} (t : ShareTaken g n p i ws)
-    (h : ws' ≡ cleared n ws) {m lo hi N : ℕ} {r : Sentence} (em : m ≡ total g n)
-    (el : lo ≡ first_of_share m p i) (eh : hi ≡ first_of_share m p (i + 1))
-    (x : Shared g n lo hi N r) where
+    (h : ws' ≡ cleared n ws) {m lo hi : ℕ} (em : m ≡ total g n)
+    (el : lo ≡ first_of_share m p i) (eh : hi ≡ first_of_share m p (i + 1)) where
   low : lo ≡ first_of_share (total g n) p i
   low = el ∙ ap (λ (y : ℕ). first_of_share y p i) em
 
@@ -43,30 +39,25 @@ module _ {g : Rules} {n p i : ℕ} {ws ws' : List ℕ} (t : ShareTaken g n p i w
   high = eh ∙ ap (λ (y : ℕ). first_of_share y p (i + 1)) em
       ∙ ap (first_of_share (total g n) p) (add-one i)
 
-  pub shared_clear : r.count ≡ 0 → ShareOn g n p i ws ws' (with Answer.Clear N (m / p) (m % p) r)
-  shared_clear z = go x
-    where
-      go : Shared g n lo hi N r → ShareOn g n p i ws ws' (with Answer.Clear N (m / p) (m % p) r)
-      go (Of.clear y e c d) =
-          clear t (rw (← low, ← high) y) (λ j. with Answer.Clear (e j) (em j / p) (em j % p)
-          (record { tokens = d j; count = c j })) h
-      go (Of.two y e c d) = absurd (omega (arith, t.size.low))
+  pub shared_clear : NoneIn g n lo hi
+      → ShareOn g n p i ws ws' (share_reply_of 0 (m / p) (m % p) None)
+  shared_clear y =
+      clear t (rw (← low, ← high) y) (λ j. share_reply_of 0 (em j / p) (em j % p) None) h
 
-  pub shared_two : (r.count ≡ 0 → ⊥) → ShareOn g n p i ws ws' (with Answer.Two N (m / p) (m % p) r)
-  shared_two z = go x
+  pub shared_two : {N : ℕ} {s : Sentence} → SharedTwo g n lo hi N s
+      → ShareOn g n p i ws ws' (with N (m / p) (m % p) s)
+  shared_two {N} {s} y = two {cs = cs} t (rw (← low, ← high) y.lowest) whole h
     where
-      go : Shared g n lo hi N r → ShareOn g n p i ws ws' (with Answer.Two N (m / p) (m % p) r)
-      go (Of.clear y e c d) = absurd (z c)
-      go (Of.two {cs = cs} y e c d) = two {cs = cs} t (rw (← low, ← high) y) whole h
-        where
-          k : n ≡ length (sentence cs)
-          k = sym y.candidate.arranged.size ∙ sym (sentence_length 1 cs)
+      cs : List Cell
+      cs = y.found
 
-          whole : with Answer.Two N (m / p) (m % p) r ≡ share_reply_of Answer.Two (number g n cs)
-              (total g n / p) (total g n % p) (sentence cs)
-          whole = λ j. with Answer.Two (e j) (em j / p) (em j % p)
-              (record {
-                tokens = (d ∙ ap (λ (v : ℕ). sentence cs ++ replicate (64 - v) no_token) k)
-                    j;
-                count = (c ∙ k) j;
-              })
+      k : n ≡ length (sentence cs)
+      k = sym y.lowest.candidate.arranged.size ∙ sym (sentence_length 1 cs)
+
+      whole : with N (m / p) (m % p) s ≡ share_reply_of (number g n cs)
+          (total g n / p) (total g n % p) (Some (sentence cs))
+      whole = λ j. with (y.number j) (em j / p) (em j % p)
+          (record {
+            tokens = (y.tokens ∙ ap (λ (v : ℕ). sentence cs ++ replicate (64 - v) no_token) k) j;
+            count = (y.count ∙ k) j;
+          })

@@ -19,11 +19,15 @@ use Rattle.sheets.specs.declared.Fault.{Fault}
 use Rattle.sheets.specs.Items.{accepted}
 use Rattle.sheets.proofs.Once.{apart}
 use Rattle.sheets.specs.RuleSheets.{rule_sheet}
+use Rattle.std.specs.Prelude.{None, Some, Result}
 use Rattle.sheets.specs.declared.Answer.{Answer}
-use Rattle.sweep_answers.specs.declared.SweepReply.{SweepReply}
+use Rattle.sheets.specs.declared.Refusal.{Refusal}
+use Rattle.sheets.specs.Results.{refusal, told_line}
+use Rattle.sweep_answers.specs.declared.Swept.{Swept}
 use Rattle.sweep_answers.specs.Sweep.{sweep_limit, no_sentence, SweepTaken, SweepOf}
+use Rattle.sweep_answers.specs.Sweep.{sweep_told, sweep_sentence}
 use Rattle.sweep_answers.specs.Sweep as Sweep
-use Rattle.call_shares.specs.declared.ShareReply.{ShareReply}
+use Rattle.call_shares.specs.Share.{ShareResult, share_told, share_sentence}
 use Rattle.call_shares.specs.Share.{ShareOn, bound, many, racks, beyond, short, clear, two}
 use Rattle.call_shares.specs.Share.{ShareOf, refusing, reading}
 use Rattle.call_shares.specs.Merge.{Refuses, Merged, first_refuses, second_refuses, second}
@@ -33,7 +37,7 @@ use Rattle.call_shares.specs.MergedAll.{first_found}
 use Rattle.call_shares.specs.MergedAll as MergedAll
 use Rattle.call_shares.specs.Asked.{Asked}
 use Rattle.call_shares.proofs.ShareSettled.{small_terminals, off}
-use Rattle.call_shares.proofs.Merging.{merged_sweep}
+use Rattle.call_shares.proofs.Merging.{clear_not, two_not, merged_sweep}
 
 -- 1. fewer tokens have no more arrangements: an answered sweep of k leaves no 24 for a length up to
 -- k
@@ -56,16 +60,16 @@ shorter_few {g} {n} {k} t l h = le_trans (arrangements_less (terminal_count g) n
 
 -- 2. what a share replies then
 
-data Kept (r : ShareReply) : Type 0 where
-  nothing : r.answer ≡ Answer.Clear → r.line ≡ 0 → r.sentence ≡ no_sentence → Kept r
-  lowest : r.answer ≡ Answer.Two → r.line ≡ 0 → Kept r
+data Kept (r : ShareResult) : Type 0 where
+  nothing : share_told r ≡ Answer.Clear → told_line r ≡ 0 → share_sentence r ≡ no_sentence → Kept r
+  lowest : share_told r ≡ Answer.Two → told_line r ≡ 0 → Kept r
 
-kept_not : {r : ShareReply} → Kept r → Refuses r.answer → ⊥
-kept_not (nothing e l z) x = subst Refuses e x
-kept_not (lowest e l) x = subst Refuses e x
+kept_not : {r : ShareResult} → Kept r → Refuses r → ⊥
+kept_not {r} (nothing e l z) x = clear_not r e x
+kept_not {r} (lowest e l) x = two_not r e x
 
 module _ {rules : List ℕ} {g : Rules} (e : rule_sheet rules ≡ accepted g) {n p i : ℕ}
-    {r : ShareReply} (x : Asked rules n p i r) where
+    {r : ShareResult} (x : Asked rules n p i r) where
   answered : Answered g n p i r
   answered = go x.replied
     where
@@ -84,23 +88,23 @@ module _ {rules : List ℕ} {g : Rules} (e : rule_sheet rules ≡ accepted g) {n
       on (racks q m o y h) = absurd (off m a b)
       on (beyond q v m o w y h) = absurd (omega arith)
       on (short q v m o w z y h) = absurd (omega (arith, x.enough))
-      on (clear q m y h) = nothing (ap (λ (z : ShareReply). z.answer) y)
-          (ap (λ (z : ShareReply). z.line) y) (ap (λ (z : ShareReply). z.sentence) y)
+      on (clear q m y h) = nothing (ap share_told y)
+          (ap told_line y) (ap share_sentence y)
       on (two q m y h) =
-          lowest (ap (λ (z : ShareReply). z.answer) y) (ap (λ (z : ShareReply). z.line) y)
+          lowest (ap share_told y) (ap told_line y)
 
       go : ShareOf rules n p i x.words x.after r → Kept r
       go (refusing d y h) = absurd (apart d e)
       go (reading {g = g'} d y) = let z : g' ≡ g = cc in on (rw z at y)
 
 -- the merged report is one of them
-merged_one : {a b m : ShareReply} → Merged a b m → (m ≡ a) ⊎ (m ≡ b)
+merged_one : {a b m : ShareResult} → Merged a b m → (m ≡ a) ⊎ (m ≡ b)
 merged_one (first_refuses x e) = inl e
 merged_one (second_refuses n x e) = inr e
 merged_one (second n x l e) = inr e
 merged_one (first n x l e) = inl e
 
-pub merged_member : (a : ShareReply) (rs : List ShareReply) (m : ShareReply) → MergedAll a rs m
+pub merged_member : (a : ShareResult) (rs : List ShareResult) (m : ShareResult) → MergedAll a rs m
     → Memᴰ m (a ∷ rs)
 merged_member a [] m e = Memᴰ.head e
 merged_member a (b ∷ rs) m q = ⊎_elim here (λ h. Memᴰ.tail (Memᴰ.tail h))
@@ -113,58 +117,61 @@ merged_member a (b ∷ rs) m q = ⊎_elim here (λ h. Memᴰ.tail (Memᴰ.tail h
 -- 3. the merged report and the sweep
 
 -- the same answer, line and sentence
-pub record SameAnswer (m : ShareReply) (s : SweepReply) : Type 0 where
-  pub answer : m.answer ≡ s.answer
-  pub line : m.line ≡ s.line
-  pub sentence : m.sentence ≡ s.sentence
+pub record SameAnswer (m : ShareResult) (s : Result Swept Refusal) : Type 0 where
+  pub answer : share_told m ≡ sweep_told s
+  pub line : told_line m ≡ told_line s
+  pub sentence : share_sentence m ≡ sweep_sentence s
 
-kept_line : {r : ShareReply} → Kept r → r.line ≡ 0
+kept_line : {r : ShareResult} → Kept r → told_line r ≡ 0
 kept_line (nothing e l z) = l
 kept_line (lowest e l) = l
 
-kept_clear : {r : ShareReply} → Kept r → r.answer ≡ Answer.Clear → r.sentence ≡ no_sentence
+kept_clear : {r : ShareResult} → Kept r → share_told r ≡ Answer.Clear
+    → share_sentence r ≡ no_sentence
 kept_clear (nothing e l z) d = z
 kept_clear (lowest e l) d = absurd (clash cc)
 
-clear_same : {g : Rules} {k : ℕ} {m : ShareReply} {s : SweepReply} {j : ℕ} → Kept m
-    → MergedAll.Sweeps g k m → Clear g k → s ≡ Sweep.sweep_reply_of Answer.Clear 0 [] j
+clear_same : {g : Rules} {k : ℕ} {m : ShareResult} {s : Result Swept Refusal} {j : ℕ} → Kept m
+    → MergedAll.Sweeps g k m → Clear g k → s ≡ Sweep.sweep_reply_of None j
     → SameAnswer m s
 clear_same y (some_refused x) c e = absurd (kept_not y x)
 clear_same y (all_clear d x z) c e =
     record {
-      answer = x ∙ sym (ap (λ (q : SweepReply). q.answer) e);
-      line = kept_line y ∙ sym (ap (λ (q : SweepReply). q.line) e);
-      sentence = kept_clear y x ∙ sym (ap (λ (q : SweepReply). q.sentence) e);
+      answer = x ∙ sym (ap sweep_told e);
+      line = kept_line y ∙ sym (ap told_line e);
+      sentence = kept_clear y x ∙ sym (ap sweep_sentence e);
     }
 clear_same y (first_found f x v w) c e = absurd (never_both c f)
 
-two_same : {g : Rules} {k : ℕ} {m : ShareReply} {s : SweepReply} {cs : List Cell} {j : ℕ} → Kept m
+two_same : {g : Rules} {k : ℕ} {m : ShareResult} {s : Result Swept Refusal} {cs : List Cell} {j : ℕ}
+    → Kept m
     → MergedAll.Sweeps g k m → FirstTwo g k cs
-    → s ≡ Sweep.sweep_reply_of Answer.Two 0 (Candidates.sentence cs) j → SameAnswer m s
+    → s ≡ Sweep.sweep_reply_of (Some (Candidates.sentence cs)) j → SameAnswer m s
 two_same y (some_refused x) f e = absurd (kept_not y x)
 two_same y (all_clear d x z) f e = absurd (never_both d f)
 two_same {g} {k} {m} {s} {cs} y (first_found {cs = ds} d x v w) f e =
     let z : found ds ≡ found cs = answer_unique g k (found ds) (found cs) d f in
     let q : ds ≡ cs = cc in
     record {
-      answer = x ∙ sym (ap (λ (q : SweepReply). q.answer) e);
-      line = kept_line y ∙ sym (ap (λ (q : SweepReply). q.line) e);
-      sentence = w ∙ rw q (sym (ap (λ (q : SweepReply). q.sentence) e));
+      answer = x ∙ sym (ap sweep_told e);
+      line = kept_line y ∙ sym (ap told_line e);
+      sentence = w ∙ rw q (sym (ap sweep_sentence e));
     }
 
 -- whatever their order: the replies of all shares of the lengths 1 to k, each asked for with words
 -- enough, p n racks for the length n
 pub merged_is_sweep : (rules : List ℕ) (k : ℕ) (p : ℕ → ℕ) → ((n : ℕ) → 1 ≤ p n)
-    → ((n : ℕ) → p n ≤ 64) → (a : ShareReply) (rs : List ShareReply) {m : ShareReply}
+    → ((n : ℕ) → p n ≤ 64) → (a : ShareResult) (rs : List ShareResult) {m : ShareResult}
     → ((n i : ℕ) → 1 ≤ n → n ≤ k → i < p n
-    → (r : ShareReply) × Memᴰ r (a ∷ rs) × Asked rules n (p n) i r)
-    → ((r : ShareReply) → Memᴰ r (a ∷ rs)
+    → (r : ShareResult) × Memᴰ r (a ∷ rs) × Asked rules n (p n) i r)
+    → ((r : ShareResult) → Memᴰ r (a ∷ rs)
     → (n : ℕ) × (i : ℕ) × (1 ≤ n) × (n ≤ k) × (i < p n) × Asked rules n (p n) i r)
-    → MergedAll a rs m → {words words' : List ℕ} {s : SweepReply} → SweepOf rules k words words' s
-    → (Refuses s.answer → ⊥) → SameAnswer m s
+    → MergedAll a rs m → {words words' : List ℕ} {s : Result Swept Refusal}
+    → SweepOf rules k words words' s
+    → (Refuses s → ⊥) → SameAnswer m s
 merged_is_sweep rules k p pos most a rs {m} each only q {words} {words'} {s} y ok = go y
   where
-    never : {f : Fault} → s.answer ≡ Answer.Refused f → SameAnswer m s
+    never : {f : Fault} {l : ℕ} → s ≡ refusal f l → SameAnswer m s
     never e = absurd (ok (subst Refuses (sym e) tt))
 
     sweeps : {g : Rules} → rule_sheet rules ≡ accepted g → MergedAll.Sweeps g k m
@@ -178,9 +185,9 @@ merged_is_sweep rules k p pos most a rs {m} each only q {words} {words'} {s} y o
         kept e z.5 t z.2 z.3 (pos z.0) (most z.0) z.4
 
     go : SweepOf rules k words words' s → SameAnswer m s
-    go (Sweep.refusing e x h) = never (ap (λ (z : SweepReply). z.answer) x)
-    go (Sweep.reading e (Sweep.bound l n x h)) = never (ap (λ (z : SweepReply). z.answer) x)
-    go (Sweep.reading e (Sweep.many l u o n x h)) = never (ap (λ (z : SweepReply). z.answer) x)
-    go (Sweep.reading e (Sweep.short l u o v n x h)) = never (ap (λ (z : SweepReply). z.answer) x)
+    go (Sweep.refusing e x h) = never x
+    go (Sweep.reading e (Sweep.bound l n x h)) = never x
+    go (Sweep.reading e (Sweep.many l u o n x h)) = never x
+    go (Sweep.reading e (Sweep.short l u o v n x h)) = never x
     go (Sweep.reading e (Sweep.clear t c v x h)) = clear_same (own e t) (sweeps e) c x
     go (Sweep.reading e (Sweep.two t c o v x h)) = two_same (own e t) (sweeps e) c x

@@ -3,115 +3,93 @@
 #![tactic(auto)]
 
 ghost use Rattle.std.specs.Prelude.{◌≡◌};
-ghost use Rattle.grammar.specs.Content.{rules_of as rulesOf, Formed};
+ghost use Rattle.grammar.specs.Content.{rules_of, Formed};
 ghost use Rattle.sets.specs.Says.{Says};
-ghost use Rattle.call_shares.specs.Merge.{Refuses, Leads, Merged};
-ghost use Rattle.call_shares.specs.Share.{share_refusal, Length, ShareTaken, ShareOn, ShareOf};
+ghost use Rattle.call_shares.specs.Merge.{Leads, Merged};
+ghost use Rattle.call_shares.specs.Inner.{found_count};
+ghost use Rattle.call_shares.specs.Share.{Length, ShareTaken, ShareOn, ShareOf};
 
 use arrangement_numbers::{all_numbers, begins_at};
 use candidates::{terminal_count, terminals, within_limit};
 use grammar::{Grammar, Sentence};
 use share_search::share_rules;
-use sheets::{Answer, Fault, Outcome, read_rules};
+use sheets::{Fault, Refusal, read_rules};
 use spans::size;
-use sweep_answers::nothing;
 
-// The answer of a share: besides, the lowest number, M ÷ p and its remainder, and the sentence, of
-// no tokens where none was found.
+// The lowest number, M ÷ p and its remainder, and the sentence that can be read in two ways, or
+// none:
+// clear, with the number 0.
 #[derive(Clone, Copy)]
-pub struct ShareReply {
-    pub answer: Answer,
-    pub line: usize,
+pub struct Report {
     pub number: u64,
     pub quotient: u64,
     pub remainder: u64,
-    pub sentence: Sentence,
-}
-
-// A refused share.
-fn refused_share(f: Fault, line: usize) -> ShareReply
-    ensures { result ≡ share_refusal f line }
-{
-    let sentence = nothing();
-    ShareReply {
-        answer: Answer::Refused(f),
-        line,
-        number: 0,
-        quotient: 0,
-        remainder: 0,
-        sentence,
-    }
+    pub sentence: Option<Sentence>,
 }
 
 // An accepted share: its numbers, and what is found among them.
-fn taken(g: Grammar, n: usize, p: usize, i: usize, words: &mut [u64]) -> ShareReply
+fn taken(g: Grammar, n: usize, p: usize, i: usize, words: &mut [u64]) -> Result<Report, Refusal>
     requires formed { Formed g }
-    requires share_taken { ShareTaken (rulesOf g) n p i words.old }
-    ensures { ShareOn (rulesOf g) n p i words.old words.new result }
+    requires share_taken { ShareTaken (rules_of g) n p i words.old }
+    ensures { ShareOn (rules_of g) n p i words.old words.new result }
 {
     let set = terminals(g);
     let m = all_numbers(set, n);
     let start = begins_at(m, p as u64, i as u64);
     let end = begins_at(m, p as u64, i as u64 + 1);
-    let found = share_rules(g, n, start, end, words);
-    let sentence = found.sentence;
     let quotient = m / (p as u64);
     let remainder = m % (p as u64);
-    if sentence.count == 0 {
-        return ShareReply {
-            answer: Answer::Clear,
-            line: 0,
+    match share_rules(g, n, start, end, words) {
+        None => Ok(Report {
+            number: 0,
+            quotient,
+            remainder,
+            sentence: None,
+        }),
+        Some(found) => Ok(Report {
             number: found.number,
             quotient,
             remainder,
-            sentence,
-        };
-    }
-    ShareReply {
-        answer: Answer::Two,
-        line: 0,
-        number: found.number,
-        quotient,
-        remainder,
-        sentence,
+            sentence: Some(found.sentence),
+        }),
     }
 }
 
 // A share of a length that is taken on: 45, 46, 21, else its answer.
-fn divided(g: Grammar, n: usize, p: usize, i: usize, words: &mut [u64]) -> ShareReply
+fn divided(g: Grammar, n: usize, p: usize, i: usize, words: &mut [u64]) -> Result<Report, Refusal>
     requires formed { Formed g }
-    requires length { Length (rulesOf g) n }
-    ensures { ShareOn (rulesOf g) n p i words.old words.new result }
+    requires length { Length (rules_of g) n }
+    ensures { ShareOn (rules_of g) n p i words.old words.new result }
 {
     if p == 0 {
-        return refused_share(Fault::BadRacks, 0);
+        return Err(Fault::BadRacks.into());
     }
     if 64 < p {
-        return refused_share(Fault::BadRacks, 0);
+        return Err(Fault::BadRacks.into());
     }
     if p <= i {
-        return refused_share(Fault::BadShare, 0);
+        return Err(Fault::BadShare.into());
     }
     if words.len() < size(n) {
-        return refused_share(Fault::FewWords, 0);
+        return Err(Fault::FewWords.into());
     }
     taken(g, n, p, i, words)
 }
 
 // A share on rules that were read: 23, 24, else the share.
-fn judged(g: Grammar, n: usize, p: usize, i: usize, words: &mut [u64]) -> ShareReply
+fn judged(g: Grammar, n: usize, p: usize, i: usize, words: &mut [u64]) -> Result<Report, Refusal>
     requires { Formed g }
-    ensures { ShareOn (rulesOf g) n p i words.old words.new result }
+    ensures { ShareOn (rules_of g) n p i words.old words.new result }
 {
     if n == 0 {
-        return refused_share(Fault::BadBound, 0);
+        return Err(Fault::BadBound.into());
     }
     if 7 < n {
-        return refused_share(Fault::BadBound, 0);
+        return Err(Fault::BadBound.into());
     }
     let t = terminal_count(terminals(g));
     if !within_limit(t, n as u64) {
-        return refused_share(Fault::ManyCandidates, 0);
+        return Err(Fault::ManyCandidates.into());
     }
     divided(g, n, p, i, words)
 }
@@ -124,33 +102,12 @@ pub fn share(
     racks: usize,
     share: usize,
     words: &mut [u64],
-) -> ShareReply
+) -> Result<Report, Refusal>
     ensures { ShareOf rules.now length racks share words.old
         words.new result }
 {
-    let a = read_rules(rules);
-    let o = a.outcome;
-    match o {
-        Outcome::Refused(f, l) => refused_share(f, l),
-        Outcome::Accepted => {
-            let g = a.grammar;
-            judged(g, length, racks, share, words)
-        }
-    }
-}
-
-// Is the answer a refusal?
-fn refuses(a: Answer) -> bool
-    ensures { Says result (Refuses a) }
-{
-    match a {
-        Answer::None => false,
-        Answer::One => false,
-        Answer::Two => false,
-        Answer::Clear => false,
-        Answer::Given => false,
-        Answer::Refused(_) => true,
-    }
+    let book = read_rules(rules)?;
+    judged(book.grammar, length, racks, share, words)
 }
 
 // Does a report of n tokens and a number come before one of m tokens and another number? One of no
@@ -170,21 +127,27 @@ pub fn leads(n: usize, number: u64, m: usize, other: u64) -> bool
     n < m
 }
 
+// How many tokens a report's sentence has, 0 where there is none.
+fn found_count(s: Option<Sentence>) -> usize
+    ensures { result ≡ found_count s }
+{
+    match s {
+        Some(s) => s.count,
+        None => 0,
+    }
+}
+
 // Two reports of shares merged: a refusal, else the one with the lower number of the shorter
 // length. Merged one by one, the reports of all shares of the lengths 1 to k come to the sweep's
 // answer.
-pub fn merge(a: ShareReply, b: ShareReply) -> ShareReply
+pub fn merge(a: Result<Report, Refusal>, b: Result<Report, Refusal>) -> Result<Report, Refusal>
     ensures { Merged a b result }
 {
-    let x = a.answer;
-    if refuses(x) {
-        return a;
-    }
-    let y = b.answer;
-    if refuses(y) {
-        return b;
-    }
-    if leads(b.sentence.count, b.number, a.sentence.count, a.number) {
+    let x = a?;
+    let y = b?;
+    let n = found_count(x.sentence);
+    let m = found_count(y.sentence);
+    if leads(m, y.number, n, x.number) {
         return b;
     }
     a

@@ -4,31 +4,11 @@
 ghost use Rattle.std.specs.Prelude.{◌≡◌};
 ghost use Rattle.list_answers.specs.ListReplies.{on_list};
 
-use lists::Listed;
-use sheets::{Answer, Fault};
+use sheets::{Fault, Refusal};
 
-// The answer, with the refused line's number, or 0, and the number of entries.
-#[derive(Clone, Copy)]
-pub struct ListReply {
-    pub answer: Answer,
-    pub line: usize,
-    pub count: usize,
-}
-
-// The reply on an answer whose list was put, or did not fit.
-pub fn list_reply(a: Answer, l: Listed) -> ListReply
-    ensures { result ≡ on_list a l }
+// The number of entries of a list that was put, or refusal 22 where it did not fit.
+pub fn given(l: Option<usize>) -> Result<usize, Refusal>
+    ensures { result ≡ on_list l }
 {
-    if l.fits {
-        return ListReply {
-            answer: a,
-            line: 0,
-            count: l.count,
-        };
-    }
-    ListReply {
-        answer: Answer::Refused(Fault::FewRows),
-        line: 0,
-        count: 0,
-    }
+    l.ok_or(Fault::FewRows.into())
 }

@@ -6,7 +6,9 @@ use native.Mathlib.Omega.{arith}
 use lib.ListN.{length}
 use Rattle.grammar.specs.Trees.{Rules}
 use Rattle.sheets.specs.Items.{Reading}
-use Rattle.sweep_answers.specs.declared.SweepReply.{SweepReply}
+use Rattle.std.specs.Prelude.{Result}
+use Rattle.sheets.specs.declared.Refusal.{Refusal}
+use Rattle.sweep_answers.specs.declared.Swept.{Swept}
 use Rattle.sweep_answers.specs.Sweep.{SweepTaken, SweepBy}
 use Rattle.sweep_answers.specs.Sweep as Sweep
 use Rattle.sweep_answers.proofs.SweepSettled.{sweep_settled}
@@ -16,7 +18,7 @@ module _ {ws vs : List ℕ} (e : length ws ≡ length vs) where
   taken_moved t =
       record { low = t.low; high = t.high; few = t.few; enough = omega (arith, t.enough) }
 
-  pub sweep_reply : {given : Reading Rules} {k : ℕ} {a b : List ℕ} {r s : SweepReply}
+  pub sweep_reply : {given : Reading Rules} {k : ℕ} {a b : List ℕ} {r s : Result Swept Refusal}
       → SweepBy given k ws a r → SweepBy given k vs b s → r ≡ s
   sweep_reply (Sweep.refusing d x h) y = (sweep_settled (Sweep.refusing d x refl) y).0
   sweep_reply (Sweep.reading d (Sweep.bound l n x h)) y =

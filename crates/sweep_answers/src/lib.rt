@@ -2,34 +2,31 @@
 #![tactic(auto)]
 
 ghost use Rattle.std.specs.Prelude.{◌≡◌};
-ghost use Rattle.grammar.specs.Content.{rules_of as rulesOf, Formed};
+ghost use Rattle.grammar.specs.Content.{rules_of, Formed};
 ghost use Rattle.lengths.specs.Indexes.{Exact};
 ghost use Rattle.sheets.specs.Promises.{RulesRead};
 ghost use Rattle.sheets.specs.Told.{told};
-ghost use Rattle.sweep_answers.specs.Sweep.{SweepBy};
-ghost use Rattle.sweep_answers.specs.Sweep as Sweep;
-ghost use Rattle.sweep_answers.specs.SweepReplies.{sweep_refusal, SweepOn};
+ghost use Rattle.sweep_answers.specs.Sweep.{no_sentence, SweepTaken, SweepBy};
+ghost use Rattle.sweep_answers.specs.SweepReplies.{SweepOn};
 
 use candidates::{terminal_count, terminals, within_limit};
 use grammar::{Column, Grammar, Line, Sentence, Token, Width};
-use lengths::Index;
-use sheets::{Answer, Fault, GrammarRead, Outcome};
+use lengths::{Book, Index};
+use sheets::{Fault, Refusal};
 use spans::size;
 use sweeping::sweep_rules;
 
-// The answer of a sweep: besides, the found sentence, of no tokens where none was found, and how
-// many candidates were tried.
+// The found sentence that can be read in two ways, or none: clear; and how many candidates were
+// tried.
 #[derive(Clone, Copy)]
-pub struct SweepReply {
-    pub answer: Answer,
-    pub line: usize,
-    pub sentence: Sentence,
+pub struct Swept {
+    pub found: Option<Sentence>,
     pub tried: u64,
 }
 
 // The sentence of no tokens.
 pub fn nothing() -> Sentence
-    ensures { result ≡ Sweep.no_sentence }
+    ensures { result ≡ no_sentence }
 {
     Sentence {
         tokens: [Token {
@@ -42,80 +39,51 @@ pub fn nothing() -> Sentence
     }
 }
 
-// A refused sweep.
-fn refused_sweep(f: Fault, line: usize) -> SweepReply
-    ensures { result ≡ sweep_refusal f line }
-{
-    let sentence = nothing();
-    SweepReply {
-        answer: Answer::Refused(f),
-        line,
-        sentence,
-        tried: 0,
-    }
-}
-
-// An accepted sweep.
-fn taken(g: Grammar, x: Index, k: usize, words: &mut [u64]) -> SweepReply
+// A sweep that is taken on.
+fn taken(g: Grammar, x: Index, k: usize, words: &mut [u64]) -> Result<Swept, Refusal>
     requires formed { Formed g }
-    requires exact { Exact (rulesOf g) x }
-    requires sweep_taken { Sweep.SweepTaken (rulesOf g) k words.old }
-    ensures { SweepOn (rulesOf g) k words.old words.new result }
+    requires exact { Exact (rules_of g) x }
+    requires sweep_taken { SweepTaken (rules_of g) k words.old }
+    ensures { SweepOn (rules_of g) k words.old words.new result }
 {
     let s = sweep_rules(g, x, k, words);
-    let tried = s.tried;
-    let sentence = s.sentence;
-    let n = sentence.count;
-    if n == 0 {
-        return SweepReply {
-            answer: Answer::Clear,
-            line: 0,
-            sentence,
-            tried,
-        };
-    }
-    SweepReply {
-        answer: Answer::Two,
-        line: 0,
-        sentence,
-        tried,
-    }
+    Ok(Swept {
+        found: s.sentence,
+        tried: s.tried,
+    })
 }
 
 // The sweep on rules that were read: 23, 24, 21, else its answer.
-fn swept(g: Grammar, x: Index, k: usize, words: &mut [u64]) -> SweepReply
+fn judged(g: Grammar, x: Index, k: usize, words: &mut [u64]) -> Result<Swept, Refusal>
     requires formed { Formed g }
-    requires exact { Exact (rulesOf g) x }
-    ensures { SweepOn (rulesOf g) k words.old words.new result }
+    requires exact { Exact (rules_of g) x }
+    ensures { SweepOn (rules_of g) k words.old words.new result }
 {
     if k == 0 {
-        return refused_sweep(Fault::BadBound, 0);
+        return Err(Fault::BadBound.into());
     }
     if 7 < k {
-        return refused_sweep(Fault::BadBound, 0);
+        return Err(Fault::BadBound.into());
     }
     let t = terminal_count(terminals(g));
     if !within_limit(t, k as u64) {
-        return refused_sweep(Fault::ManyCandidates, 0);
+        return Err(Fault::ManyCandidates.into());
     }
     if words.len() < size(k) {
-        return refused_sweep(Fault::FewWords, 0);
+        return Err(Fault::FewWords.into());
     }
     taken(g, x, k, words)
 }
 
 // The sweep on the rules that were read.
-pub fn sweep_read(a: GrammarRead, bound: usize, words: &mut [u64]) -> SweepReply
+pub fn sweep_read(
+    a: Result<Book, Refusal>,
+    bound: usize,
+    words: &mut [u64],
+) -> Result<Swept, Refusal>
     requires { RulesRead a (told a) }
     ensures { SweepBy (told a) bound words.old words.new result }
 {
-    let o = a.outcome;
-    match o {
-        Outcome::Refused(f, l) => refused_sweep(f, l),
-        Outcome::Accepted => {
-            let g = a.grammar;
-            let x = a.index;
-            swept(g, x, bound, words)
-        }
-    }
+    let book = a?;
+    judged(book.grammar, book.index, bound, words)
 }

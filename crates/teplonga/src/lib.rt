@@ -6,14 +6,15 @@ ghost use Rattle.answering.specs.Trees.{TreesOf};
 ghost use Rattle.sweep_answers.specs.Sweep.{SweepOf};
 ghost use Rattle.sheets.specs.RefusedLines.{refused_line, Hands};
 
-use answering::{Reply, TreesReply, trees_read};
-use sheets::{read_rules, read_tokens, refused_read};
-use sweep_answers::{SweepReply, sweep_read};
+use answering::{TreeRows, trees_read};
+use grammar::Verdict;
+use sheets::{Refusal, read_rules, read_tokens, refused_read};
+use sweep_answers::{Swept, sweep_read};
 use verdict_answers::verdict_read;
 
 // The verdict on a sentence: has it no valid tree of nonterminal 0, one, or two? The span sheet is
 // filled.
-pub fn verdict(rules: &[u8], tokens: &[u8], words: &mut [u64]) -> Reply
+pub fn verdict(rules: &[u8], tokens: &[u8], words: &mut [u64]) -> Result<Verdict, Refusal>
     ensures { VerdictOf rules.now tokens.now words.old
         words.new result }
 {
@@ -27,7 +28,7 @@ pub fn trees(
     words: &mut [u64],
     first: &mut [u8],
     second: &mut [u8],
-) -> TreesReply
+) -> Result<TreeRows, Refusal>
     ensures { TreesOf rules.now tokens.now words.old
         words.new first.old first.new second.old
         second.new result }
@@ -37,7 +38,7 @@ pub fn trees(
 
 // Is there a sentence of 1 to `bound` tokens that can be read in two ways? The first candidate that
 // has two trees, or clear.
-pub fn sweep(rules: &[u8], bound: usize, words: &mut [u64]) -> SweepReply
+pub fn sweep(rules: &[u8], bound: usize, words: &mut [u64]) -> Result<Swept, Refusal>
     ensures { SweepOf rules.now bound words.old words.new
         result }
 {
@@ -49,9 +50,7 @@ pub fn refused_line<'a>(rules: &'a [u8], tokens: &'a [u8]) -> &'a [u8]
     ensures { Hands rules.entry tokens.entry result
         (refused_line rules.now tokens.now) }
 {
-    let g = read_rules(rules);
-    let t = read_tokens(tokens);
-    let o = g.outcome;
-    let p = t.outcome;
-    refused_read(o, p, rules, tokens)
+    let g = read_rules(rules).err();
+    let t = read_tokens(tokens).err();
+    refused_read(g, t, rules, tokens)
 }

@@ -1,7 +1,10 @@
 -- `clauses_always` meets its contract: the answer by what the clause sheet gives.
+use Rattle.sheets.proofs.Readings.{rules_told, read_told}
 use Rattle.call_always.proofs.Replies.{always_by}
 use Rattle.call_always.proofs.clauses_always.Goals as goal
 
+pub always_read-requires : goal.always_read-requires
+always_read-requires c = read_told _ _ c.read_clauses.ensures
+
 pub returns : goal.returns
-returns c =
-    always_by c.read_clauses.ensures.is c.always_read.ensures
+returns c = always_by (rules_told _ c.read_clauses.ensures) c.always_read.ensures

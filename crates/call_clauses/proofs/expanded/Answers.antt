@@ -12,4 +12,4 @@ slice_bounds-put_list-end c = sym (length-take-le _ _ (search rules))
 pub returns : goal.returns
 returns c =
     let w = wrote_then c.put_bytes-n.ensures c.put_rules-m.ensures.wrote in
-    rw c.list_reply.ensures (list_on (rw w.front at c.put_list-l.ensures))
+    rw c.given.ensures (list_on (rw w.front at c.put_list.ensures))

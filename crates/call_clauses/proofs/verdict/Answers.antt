@@ -1,6 +1,11 @@
 -- `verdict` meets its contract: the verdict on what the clause sheet gives.
+use Rattle.sheets.proofs.Readings.{rules_told, read_told}
 use Rattle.answering.proofs.Readings.{verdict_by}
 use Rattle.call_clauses.proofs.verdict.Goals as goal
 
+pub verdict_read-requires : goal.verdict_read-requires
+verdict_read-requires c = read_told _ _ c.read_clauses.ensures
+
 pub returns : goal.returns
-returns c = verdict_by c.read_clauses.ensures.is c.args.tokens.now c.verdict_read.ensures
+returns c =
+    verdict_by (rules_told _ c.read_clauses.ensures) c.args.tokens.now c.verdict_read.ensures

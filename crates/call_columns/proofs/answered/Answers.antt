@@ -5,6 +5,7 @@ use native.Mathlib.Omega.{arith}
 use lib.ListN.{length}
 use Rattle.grammar.specs.SpanSheet.{pairs}
 use Rattle.spans.proofs.ChangeLaws.{past_same}
+use Rattle.sheets.proofs.Exits.{no_line}
 use Rattle.sweeping.proofs.Answers.{all_cleared}
 use Rattle.call_columns.specs.Columns.{short, given}
 use Rattle.sweeping.specs.Cleared.{cleared}
@@ -18,10 +19,10 @@ returns-then-words-size c =
       c.size.ensures,
       ap pairs
           c.requires.spread.whole,
-    )) refl c.refuse.ensures refl
+    )) refl (no_line c.into.ensures) refl
 
-pub choose-found-requires : goal.choose-found-requires
-choose-found-requires c = record {
+pub choose-requires : goal.choose-requires
+choose-requires c = record {
   formed = c.requires.formed;
   spread = c.requires.spread;
   count_in_bounds = omega (arith, c.if-words-size.false, c.size.ensures);
@@ -29,7 +30,7 @@ choose-found-requires c = record {
 
 pub returns : goal.returns
 returns c =
-    let f = c.choose-found.ensures in
+    let f = c.choose.ensures in
     let e = c.requires.spread.whole in
     let h : 2 * pairs c.args.r.count ≤ length c.args.words.now = omega (
       arith,

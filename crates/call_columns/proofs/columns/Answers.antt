@@ -1,27 +1,21 @@
 -- The readers' refusals, else the answer on what was read.
-use Rattle.call_columns.specs.Columns.{bad_rules, bad_ranges, reading}
-use Rattle.sheets.proofs.Readings.{rules_are, rules_not}
-use Rattle.range_sheets.proofs.Accepted.{ranges_are, ranges_not}
 use mathlib.Core.Path.{refl}
+use Rattle.sheets.proofs.Exits.{handed_on}
+use Rattle.call_columns.specs.Columns.{bad_rules, bad_ranges, reading}
 use Rattle.call_columns.proofs.columns.Goals as goal
 
 pub answered-requires : goal.answered-requires
-answered-requires c = let q = c.read_ranges-b.ensures in
-    let e = c.in-Accepted-p.is in
-    record { formed = c.read_rules-a.ensures.formed c.in-Accepted.is; spread = q.spread e }
+answered-requires c =
+    record { formed = c.in_ok-book.ensures.formed; spread = c.in_ok-r.ensures.spread }
 
-pub returns-in-Refused : goal.returns-in-Refused
-returns-in-Refused c = bad_rules (rules_not c.read_rules-a.ensures
-    c.in-Refused.is) c.refuse.ensures refl
+pub returns-in_err-book : goal.returns-in_err-book
+returns-in_err-book c =
+    bad_rules c.in_err-book.ensures (handed_on _ c.from_residual.ensures.1) refl
 
-pub returns-in-Refused-p : goal.returns-in-Refused-p
-returns-in-Refused-p c = bad_ranges (rules_are
-    c.read_rules-a.ensures
-    c.in-Accepted.is)
-    (ranges_not c.read_ranges-b.ensures
-    c.in-Refused-p.is) c.refuse-in-Refused-p.ensures refl
+pub returns-in_err-r : goal.returns-in_err-r
+returns-in_err-r c =
+    bad_ranges c.in_ok-book.ensures.is c.in_err-r.ensures
+    (handed_on _ c.from_residual-in_err-r.ensures.1) refl
 
-pub returns-in-Accepted-p : goal.returns-in-Accepted-p
-returns-in-Accepted-p c = reading (rules_are
-    c.read_rules-a.ensures c.in-Accepted.is) (ranges_are
-    c.read_ranges-b.ensures c.in-Accepted-p.is) c.answered.ensures
+pub returns : goal.returns
+returns c = reading c.in_ok-book.ensures.is c.in_ok-r.ensures.is c.answered.ensures

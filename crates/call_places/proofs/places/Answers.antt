@@ -1,29 +1,27 @@
 -- `places` meets its contract: the readers' refusals, else the places of what was read.
 use mathlib.Core.Path.{refl}
+use Rattle.sheets.proofs.Exits.{handed_on}
 use Rattle.answering.proofs.Readings.{refused_rules, refused_tokens, both_accepted}
 use Rattle.call_places.specs.Places.{refusing, reading}
 use Rattle.call_places.proofs.places.Goals as goal
 
 pub listed-requires : goal.listed-requires
-listed-requires c =
-    record {
-      formed = c.read_rules-a.ensures.formed c.in-Accepted.is;
-      positioned = c.read_tokens-b.ensures.positioned c.in-Accepted-p.is;
-    }
+listed-requires c = record {
+  formed = c.in_ok-book.ensures.formed;
+  positioned = c.in_ok-s.ensures.positioned;
+}
 
-pub returns-in-Refused : goal.returns-in-Refused
-returns-in-Refused c =
-    refusing (refused_rules c.args.tokens.now c.read_rules-a.ensures
-    c.in-Refused.is) c.unlisted.ensures refl refl
+pub returns-in_err-book : goal.returns-in_err-book
+returns-in_err-book c =
+    refusing (refused_rules c.args.tokens.now c.in_err-book.ensures)
+    (handed_on _ c.from_residual.ensures.1) refl refl
 
-pub returns-in-Refused-p : goal.returns-in-Refused-p
-returns-in-Refused-p c =
-    let e = refused_tokens c.args.tokens.now c.read_rules-a.ensures
-    c.in-Accepted.is c.read_tokens-b.ensures c.in-Refused-p.is in
-    refusing e c.unlisted-in-Refused-p.ensures refl refl
+pub returns-in_err-s : goal.returns-in_err-s
+returns-in_err-s c =
+    refusing (refused_tokens c.args.tokens.now c.in_ok-book.ensures c.in_err-s.ensures)
+    (handed_on _ c.from_residual-in_err-s.ensures.1) refl refl
 
-pub returns-in-Accepted-p : goal.returns-in-Accepted-p
-returns-in-Accepted-p c =
-    let e = both_accepted c.args.tokens.now c.read_rules-a.ensures
-    c.in-Accepted.is c.read_tokens-b.ensures c.in-Accepted-p.is in
-    reading e c.listed.ensures
+pub returns : goal.returns
+returns c =
+    reading (both_accepted c.args.tokens.now c.in_ok-book.ensures c.in_ok-s.ensures)
+    c.listed.ensures

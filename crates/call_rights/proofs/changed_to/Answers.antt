@@ -8,11 +8,11 @@ use Rattle.call_rights.proofs.changed_to.Goals as goal
 
 pub returns-then-rule-eq0 : goal.returns-then-rule-eq0
 returns-then-rule-eq0 c = let z = c.args in
-    rw c.refuse.ensures (barred_zero _ z.rules.now _ _ z.lay.now _
+    rw c.into.ensures (barred_zero _ z.rules.now _ _ z.lay.now _
     c.if-rule-eq0.true)
 
 pub returns-then-g-rule : goal.returns-then-g-rule
-returns-then-g-rule c = rw c.refuse-then-g-rule.ensures
+returns-then-g-rule c = rw c.into-then-g-rule.ensures
     (barred_past c.requires.formed c.args.rules.now c.requires.rules_value _ _
     c.args.lay.now _ c.if-g-rule.true)
 
@@ -48,7 +48,7 @@ returns-then-has c = allowed
 
 pub returns : goal.returns
 returns c =
-    rw c.refuse-2.ensures (read_barred c.requires.formed c.args.rules.now c.requires.rules_value
+    rw c.into-2.ensures (read_barred c.requires.formed c.args.rules.now c.requires.rules_value
     c.args.changes c.args.rule c.args.lay.now _
     (omega (arith, c.if-rule-eq0.false))
     (omega (arith, c.if-g-rule.false)) _

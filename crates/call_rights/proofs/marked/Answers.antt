@@ -6,22 +6,22 @@ use Rattle.call_rights.proofs.marked.Goals as goal
 
 pub returns-then-lay_fits : goal.returns-then-lay_fits
 returns-then-lay_fits c =
-    rw c.list_reply.ensures (done_listed c.args.rules.now c.args.rule c.args.c
-    c.requires.named c.args.lay.now c.in-Is.y
-    (sym c.in-Is.is ∙ c.lay_word.ensures) (sym
+    rw c.given.ensures (done_listed c.args.rules.now c.args.rule c.args.c
+    c.requires.named c.args.lay.now c.in-Some.y
+    c.in-Some.ensures (sym
     c.lay_fits.ensures
     ∙ c.if-lay_fits.true) _ _ _
     c.put_changed.ensures)
 
-pub returns-in-Not : goal.returns-in-Not
-returns-in-Not c =
-    rw c.refuse.ensures (done_form c.args.rules.now c.args.rule c.args.c
+pub returns-in-None : goal.returns-in-None
+returns-in-None c =
+    (done_form c.args.rules.now c.args.rule c.args.c
     c.requires.named c.args.lay.now
-    (sym c.in-Not.is ∙ c.lay_word.ensures) _)
+    c.in-None.ensures _)
 
 pub returns-else-lay_fits : goal.returns-else-lay_fits
 returns-else-lay_fits c =
-    rw c.refuse-in-Is.ensures (done_lay c.args.rules.now c.args.rule c.args.c
-    c.requires.named c.args.lay.now c.in-Is.y
-    (sym c.in-Is.is ∙ c.lay_word.ensures)
+    (done_lay c.args.rules.now c.args.rule c.args.c
+    c.requires.named c.args.lay.now c.in-Some.y
+    c.in-Some.ensures
     (sym c.lay_fits.ensures ∙ c.if-lay_fits.false) _)

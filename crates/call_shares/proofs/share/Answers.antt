@@ -1,19 +1,15 @@
 -- `call_shares::share` meets its contract: the reader's refusals, else the share of what was read.
 use mathlib.Core.Path.{refl}
 use Rattle.call_shares.specs.Share.{refusing, reading}
-use Rattle.sheets.proofs.Readings.{rules_are, rules_not}
+use Rattle.sheets.proofs.Exits.{handed_on}
 use Rattle.call_shares.proofs.share.Goals as goal
 
 pub judged-requires : goal.judged-requires
-judged-requires c = c.read_rules-a.ensures.formed
-    c.in-Accepted.is
+judged-requires c = c.in_ok-book.ensures.formed
 
-pub returns-in-Refused : goal.returns-in-Refused
-returns-in-Refused c = refusing (rules_not c.read_rules-a.ensures
-    c.in-Refused.is) c.refused_share.ensures refl
+pub returns-in_err-book : goal.returns-in_err-book
+returns-in_err-book c =
+    refusing c.in_err-book.ensures (handed_on _ c.from_residual.ensures.1) refl
 
-pub returns-in-Accepted : goal.returns-in-Accepted
-returns-in-Accepted c = reading (rules_are
-    c.read_rules-a.ensures
-    c.in-Accepted.is)
-    c.judged.ensures
+pub returns : goal.returns
+returns c = reading c.in_ok-book.ensures.is c.judged.ensures

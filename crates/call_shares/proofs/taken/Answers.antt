@@ -37,8 +37,8 @@ begins_at-end-requires c =
     let t = c.requires.share_taken in
     (omega (arith, m, t.size.few), t.least, omega (arith, t.below, t.most))
 
-pub share_rules-found-requires : goal.share_rules-found-requires
-share_rules-found-requires c =
+pub share_rules-requires : goal.share_rules-requires
+share_rules-requires c =
     let t = c.requires.share_taken in
     record {
       le_n = (t.size.low, t.size.high);
@@ -47,20 +47,18 @@ share_rules-found-requires c =
       n_in_bounds = t.enough;
     }
 
-pub returns-then-sentence-eq0 : goal.returns-then-sentence-eq0
-returns-then-sentence-eq0 c =
+pub returns-in-None : goal.returns-in-None
+returns-in-None c =
     let w : c.terminals-set.result < 2 ^ 64 = search rules in
     let m : c.all_numbers-m.result ≡ total (rules_of c.args.g) c.args.n =
     c.all_numbers-m.ensures ∙ total_of _ _ c.args.n w c.terminals-set.ensures in
-    shared_clear c.requires.share_taken c.share_rules-found.ensures.words_after m
-    c.begins_at-start.ensures c.begins_at-end.ensures c.share_rules-found.ensures.shared
-    c.if-sentence-eq0.true
+    shared_clear c.requires.share_taken c.in-None.ensures.words_after m
+    c.begins_at-start.ensures c.begins_at-end.ensures c.in-None.ensures.shared
 
-pub returns : goal.returns
-returns c =
+pub returns-in-Some : goal.returns-in-Some
+returns-in-Some c =
     let w : c.terminals-set.result < 2 ^ 64 = search rules in
     let m : c.all_numbers-m.result ≡ total (rules_of c.args.g) c.args.n =
     c.all_numbers-m.ensures ∙ total_of _ _ c.args.n w c.terminals-set.ensures in
-    shared_two c.requires.share_taken c.share_rules-found.ensures.words_after m
-    c.begins_at-start.ensures c.begins_at-end.ensures c.share_rules-found.ensures.shared
-    c.if-sentence-eq0.false
+    shared_two c.requires.share_taken c.in-Some.ensures.words_after m
+    c.begins_at-start.ensures c.begins_at-end.ensures c.in-Some.ensures.shared

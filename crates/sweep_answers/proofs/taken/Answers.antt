@@ -1,5 +1,5 @@
--- `taken` meets its contract: the sentence's length tells clear from two.
-use Rattle.sweep_answers.proofs.Sweeping.{bounded, swept_clear, swept_two}
+-- `taken` meets its contract: clear without a sentence, two with one.
+use Rattle.sweep_answers.proofs.Sweeping.{bounded, swept_on}
 use Rattle.sweep_answers.proofs.taken.Goals as goal
 
 pub sweep_rules-s-requires : goal.sweep_rules-s-requires
@@ -11,12 +11,7 @@ sweep_rules-s-requires c =
       k_in_bounds = c.requires.sweep_taken.enough;
     }
 
-pub returns-then-n-eq0 : goal.returns-then-n-eq0
-returns-then-n-eq0 c =
-    swept_clear _ c.requires.sweep_taken c.sweep_rules-s.ensures.swept
-    c.if-n-eq0.true c.sweep_rules-s.ensures.words_after
-
 pub returns : goal.returns
 returns c =
-    swept_two _ c.requires.sweep_taken c.sweep_rules-s.ensures.swept c.if-n-eq0.false
+    swept_on _ c.requires.sweep_taken c.sweep_rules-s.ensures.swept
     c.sweep_rules-s.ensures.words_after

@@ -1,7 +1,10 @@
 -- `sweep` meets its contract: the sweep over what the rule sheet gives.
+use Rattle.sheets.proofs.Readings.{rules_told, read_told}
 use Rattle.sweep_answers.proofs.Readings.{sweep_by}
 use Rattle.teplonga.proofs.sweep.Goals as goal
 
+pub sweep_read-requires : goal.sweep_read-requires
+sweep_read-requires c = read_told _ _ c.read_rules.ensures
+
 pub returns : goal.returns
-returns c = sweep_by c.read_rules.ensures.is
-    c.sweep_read.ensures
+returns c = sweep_by (rules_told _ c.read_rules.ensures) c.sweep_read.ensures

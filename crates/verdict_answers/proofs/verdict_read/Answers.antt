@@ -1,27 +1,30 @@
 -- `verdict_read` meets its contract: the readers' refusals, else the verdict on what was read.
 use mathlib.Core.Path.{refl}
 use Rattle.answering.specs.Verdict.{refusing, reading}
+use Rattle.sheets.proofs.Exits.{handed_on}
+use Rattle.sheets.specs.Promises.{RulesGiven}
+use Rattle.sheets.proofs.Readings.{read_of, rules_not}
 use Rattle.answering.proofs.Readings.{refused_rules, refused_tokens, both_accepted}
 use Rattle.verdict_answers.proofs.verdict_read.Goals as goal
 
 pub judged-requires : goal.judged-requires
 judged-requires c = record {
-  formed = c.requires.formed c.in-Accepted.is;
-  positioned = c.read_tokens-b.ensures.positioned
-      c.in-Accepted-p.is;
+  formed = (read_of RulesGiven c.requires c.in_ok-book.was).formed;
+  positioned = c.in_ok-s.ensures.positioned;
 }
 
-pub returns-in-Refused : goal.returns-in-Refused
-returns-in-Refused c =
-    refusing (refused_rules c.args.tokens.now c.requires c.in-Refused.is) refl refl
+pub returns-in_err-book : goal.returns-in_err-book
+returns-in_err-book c =
+    refusing (refused_rules c.args.tokens.now (rules_not c.requires c.in_err-book.was))
+    (handed_on _ c.from_residual.ensures.1) refl
 
-pub returns-in-Refused-p : goal.returns-in-Refused-p
-returns-in-Refused-p c =
-    refusing (refused_tokens c.args.tokens.now c.requires c.in-Accepted.is
-    c.read_tokens-b.ensures c.in-Refused-p.is) refl refl
+pub returns-in_err-s : goal.returns-in_err-s
+returns-in_err-s c =
+    let b = read_of RulesGiven c.requires c.in_ok-book.was in
+    refusing (refused_tokens c.args.tokens.now b c.in_err-s.ensures)
+    (handed_on _ c.from_residual-in_err-s.ensures.1) refl
 
-pub returns-in-Accepted-p : goal.returns-in-Accepted-p
-returns-in-Accepted-p c =
-    let both = both_accepted c.args.tokens.now c.requires c.in-Accepted.is
-    c.read_tokens-b.ensures c.in-Accepted-p.is in
-    reading both c.judged.ensures
+pub returns : goal.returns
+returns c =
+    let b = read_of RulesGiven c.requires c.in_ok-book.was in
+    reading (both_accepted c.args.tokens.now b c.in_ok-s.ensures) c.judged.ensures
