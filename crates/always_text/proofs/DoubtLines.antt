@@ -13,16 +13,17 @@ use Rattle.lists.proofs.Entries.{bytes_length}
 use Rattle.sheets.specs.declared.Fault.{Fault}
 use Rattle.sheets.specs.Refusals.{RefusedAs}
 use Rattle.sheets.specs.Items.{Reading, accepted}
-use Rattle.text.specs.Output.{head}
 use Rattle.pairs.specs.Doubts.{Doubt}
 use Rattle.doubt_list.specs.Entries.{doubt_bytes}
-use Rattle.call_always.specs.declared.Told.TheVariants as Told
-use Rattle.call_always.specs.declared.AlwaysReply.{AlwaysReply}
+use Rattle.std.specs.Prelude.{Result, Err}
+use Rattle.sheets.specs.declared.Refusal.{Refusal}
+use Rattle.sheets.specs.Results.{refusal}
+use Rattle.call_always.specs.declared.Told.{Told}
 use Rattle.call_always.specs.Replying.{DoubtsTold}
-use Rattle.call_always.specs.Always.{always_reply_of, always_refusal, always_words, emptied}
+use Rattle.call_always.specs.Always.{always_reply_of, always_words, emptied, always_count}
 use Rattle.call_always.specs.Always.{short, listing}
 use Rattle.call_always.specs.Always.{AlwaysBy, refusing, reading}
-use Rattle.always_text.specs.Always.{why_text, doubt_text, doubt_lines, told_text, doubts_lent}
+use Rattle.always_text.specs.Always.{why_text, doubt_text, doubt_lines, told_lines, doubts_lent}
 use Rattle.always_text.specs.Always.{AlwaysText, answered}
 
 -- any other number stands for the empty word
@@ -68,23 +69,25 @@ lines_more i l h =
 
 -- ---- the number of entries is at most the places lent
 
-counted : {r s : AlwaysReply} {m : ℕ} → r ≡ s → 4 * s.count ≤ m → 4 * r.count ≤ m
-counted e h = omega (arith, ap (λ (x : AlwaysReply). x.count) e)
+counted : {r s : Result Told Refusal} {m : ℕ} → r ≡ s → 4 * always_count s ≤ m
+    → 4 * always_count r ≤ m
+counted e h = omega (arith, ap always_count e)
 
-reply_count : (n : ℕ) → (always_reply_of n).count ≡ n
+reply_count : (n : ℕ) → always_count (always_reply_of n) ≡ n
 reply_count zero = refl
 reply_count (suc n) = refl
 
-given_few : {f : Fault} (ds : List Doubt) {lent lent' : List ℕ} {r : AlwaysReply}
-    → GivesList always_reply_of (always_refusal f 0) (bytes_of doubt_bytes ds) (length ds) lent
+given_few : {f : Fault} (ds : List Doubt) {lent lent' : List ℕ} {r : Result Told Refusal}
+    → GivesList always_reply_of (refusal f 0) (bytes_of doubt_bytes ds) (length ds) lent
     lent' r
-    → 4 * r.count ≤ length lent
+    → 4 * always_count r ≤ length lent
 given_few ds (fits h e p) =
     counted e (omega (arith, reply_count (length ds), bytes_length doubt_bytes 4 (λ a. refl) ds))
 given_few ds (large h e p) = counted e (omega arith)
 
-pub doubts_fit : {given : Reading Rules} {words words' list list' : List ℕ} {r : AlwaysReply}
-    → AlwaysBy given words words' list list' r → 4 * r.count ≤ length list
+pub doubts_fit : {given : Reading Rules} {words words' list list' : List ℕ}
+    {r : Result Told Refusal}
+    → AlwaysBy given words words' list list' r → 4 * always_count r ≤ length list
 doubts_fit (refusing e x h i) = counted x (omega arith)
 doubts_fit (reading e (short l n x h i)) = counted x (omega arith)
 doubts_fit (reading e (listing {ds = ds} h t n y w)) = given_few ds y
@@ -92,7 +95,8 @@ doubts_fit (reading e (listing {ds = ds} h t n y w)) = given_few ds y
 -- ---- the promise by the parts of the test
 
 -- the doubts of rules that were read, whatever words were lent
-pub by_told : {g : Rules} {list list' : List ℕ} {r : AlwaysReply} → DoubtsTold g list list' r
+pub by_told : {g : Rules} {list list' : List ℕ} {r : Result Told Refusal}
+    → DoubtsTold g list list' r
     → AlwaysBy (accepted g) (replicate always_words 0) (emptied (replicate always_words 0)) list
     list' r
 by_told x =
@@ -101,10 +105,11 @@ by_told x =
     refl)
 
 -- a refused sheet
-pub refused_text : {given : Reading Rules} {f : Fault} {l : ℕ} → RefusedAs given f l
-    → AlwaysText given (head (told_text (Told.Refused f)) l)
-refused_text {f = f} {l} e =
+pub refused_text : {given : Reading Rules} {e : Refusal} → RefusedAs given e.fault e.line
+    → AlwaysText given (told_lines (Err e) [])
+refused_text {e = e} h =
     answered {words = replicate always_words 0} {list = replicate (4 * doubts_lent) 0}
+    {list' = replicate (4 * doubts_lent) 0} {r = Err e}
     (length-replicate {A = ℕ} always_words 0)
-    (length-replicate {A = ℕ} (4 * doubts_lent) 0) (refusing {f = f} e refl refl refl)
-    (sym (append-nil (head (told_text (Told.Refused f)) l)))
+    (length-replicate {A = ℕ} (4 * doubts_lent) 0) (refusing {f = e.fault} h refl refl refl)
+    refl

@@ -1,6 +1,7 @@
 -- What the program `calls` writes for `always` and `clauses-always`: the answer and its line, then,
 -- for unknown, `left first second why` and a line an entry.
-use Rattle.std.specs.Prelude.{◌≡◌, List, [], ◌∷◌, ◌++◌, ℕ, zero, suc, ◌*◌, length, take}
+use Rattle.std.specs.Prelude.{◌≡◌, List, [], ◌∷◌, ◌++◌, ℕ, zero, suc, ◌*◌, length, take, Result, Ok}
+use Rattle.std.specs.Prelude.{Err}
 use Rattle.grammar.specs.Trees.{Rules}
 use Rattle.printing.specs.Printing.{field}
 use Rattle.sheets.specs.Items.{Reading}
@@ -8,14 +9,19 @@ use Rattle.sheets.specs.Refusals.{number_of}
 use Rattle.text.specs.Output.{refused_text_of, head}
 use Rattle.call_always.specs.declared.Told.{Told}
 use Rattle.call_always.specs.declared.Told.TheVariants as Told
-use Rattle.call_always.specs.declared.AlwaysReply.{AlwaysReply}
-use Rattle.call_always.specs.Always.{always_words, AlwaysBy}
+use Rattle.sheets.specs.declared.Refusal.{Refusal}
+use Rattle.sheets.specs.Results.{told_line}
+use Rattle.call_always.specs.Always.{always_words, AlwaysBy, always_count}
+
+-- the word `unknown`
+abbrev pub unknown_text : List ℕ
+unknown_text = 117 ∷ 110 ∷ 107 ∷ 110 ∷ 111 ∷ 119 ∷ 110 ∷ []
 
 -- the word of an answer: clear, unknown, refused-N
-abbrev pub told_text : Told → List ℕ
-told_text Told.Clear = 99 ∷ 108 ∷ 101 ∷ 97 ∷ 114 ∷ []
-told_text Told.Unknown = 117 ∷ 110 ∷ 107 ∷ 110 ∷ 111 ∷ 119 ∷ 110 ∷ []
-told_text (Told.Refused f) = refused_text_of (number_of f)
+abbrev pub told_text : Result Told Refusal → List ℕ
+told_text (Ok Told.Clear) = 99 ∷ 108 ∷ 101 ∷ 97 ∷ 114 ∷ []
+told_text (Ok (Told.Unknown n)) = unknown_text
+told_text (Err e) = refused_text_of (number_of e.fault)
 
 -- why, and the byte 10 behind it: `rules`, `cuts`, `empty`
 abbrev pub why_text : ℕ → List ℕ
@@ -42,10 +48,15 @@ doubt_names =
     ∷ 100 ∷ 32 ∷ 119 ∷ 104 ∷ 121 ∷ 10 ∷ []
 
 -- only for unknown
-abbrev pub doubts_text : Told → List ℕ → List ℕ
-doubts_text Told.Clear list = []
-doubts_text Told.Unknown list = doubt_names ++ doubt_lines list
-doubts_text (Told.Refused f) list = []
+abbrev pub doubts_text : Result Told Refusal → List ℕ → List ℕ
+doubts_text (Ok Told.Clear) list = []
+doubts_text (Ok (Told.Unknown n)) list = doubt_names ++ doubt_lines list
+doubts_text (Err e) list = []
+
+-- the output of what the test tells, from the list of the entries
+abbrev pub told_lines : Result Told Refusal → List ℕ → List ℕ
+told_lines r list =
+    head (told_text r) (told_line r) ++ doubts_text r (take (4 * always_count r) list)
 
 -- the entries that the program lends bytes for
 abbrev pub doubts_lent : ℕ
@@ -53,8 +64,7 @@ doubts_lent = 14400
 
 -- the output, where the sheet with the rules gives this
 pub data AlwaysText (given : Reading Rules) (text : List ℕ) : Type 0 where
-  answered : {words words' list list' : List ℕ} {r : AlwaysReply} → length words ≡ always_words
+  answered : {words words' list list' : List ℕ} {r : Result Told Refusal}
+      → length words ≡ always_words
       → length list ≡ 4 * doubts_lent → AlwaysBy given words words' list list' r
-      → text
-      ≡ head (told_text r.told) r.line ++ doubts_text r.told (take (4 * r.count) list')
-      → AlwaysText given text
+      → text ≡ told_lines r list' → AlwaysText given text

@@ -2,6 +2,14 @@
 // reply says into one number and lent words.
 #![tactic(auto)]
 
+ghost use Rattle.std.specs.Prelude.{◌≡◌, [], ◌∷◌};
+ghost use Rattle.c_words.specs.Codes.{packed, told_packed};
+ghost use Rattle.c_words.specs.Words.{AtFront, count_words, found_words};
+ghost use Rattle.sheets.specs.Results.{told_line};
+ghost use Rattle.answering.specs.Results.{verdict_told, trees_told, first_rows, second_rows};
+ghost use Rattle.sweep_answers.specs.Sweep.{sweep_told, sweep_sentence, sweep_tried};
+ghost use Rattle.list_answers.specs.Lists.{list_told, entry_count};
+ghost use Rattle.call_always.specs.Always.{always_count};
 ghost use Rattle.sheets.specs.RuleSheets.{rule_sheet};
 ghost use Rattle.sheets.specs.TokenSheets.{token_sheet};
 ghost use Rattle.sheets.specs.RefusedLines.{held_by, Hands, refused_line};
@@ -19,19 +27,103 @@ ghost use Rattle.c_interface.specs.Merge.{MergeWord};
 ghost use Rattle.c_interface.specs.Columns.{ColumnsWord};
 ghost use Rattle.c_interface.specs.Always.{AlwaysWord};
 
+use answering::TreeRows;
 use c_words::{
-    count, pack, pack_told, put_counts, put_flags, put_found, put_found_sentence, put_numbers,
-    put_one,
+    count, pack, pack_refusal, pack_told, put_counts, put_flags, put_found, put_found_sentence,
+    put_numbers, put_one,
 };
+use call_always::Told;
+use column_search::Flags;
+use grammar::Verdict;
+use sheets::{Answer, Refusal};
+use sweep_answers::{Swept, nothing};
+
+// A verdict as a number.
+fn verdict_word(r: Result<Verdict, Refusal>) -> u64
+    ensures { result ≡ packed (verdict_told r) (told_line r) }
+{
+    match r {
+        Ok(v) => pack(v.into(), 0),
+        Err(e) => pack_refusal(e),
+    }
+}
+
+// A verdict with trees as a number; `counts` gets their row counts.
+fn trees_word(r: Result<TreeRows, Refusal>, counts: &mut [u64]) -> u64
+    ensures word { result ≡ packed (trees_told r) (told_line r) }
+    ensures rows { AtFront 2 (count_words (first_rows r) (second_rows r)) counts.old counts.new }
+{
+    match r {
+        Ok(t) => {
+            put_counts(counts, t.first, t.second);
+            pack(t.verdict.into(), 0)
+        }
+        Err(e) => {
+            put_counts(counts, 0, 0);
+            pack_refusal(e)
+        }
+    }
+}
+
+// The answer of a sweep as a number; `found` gets its sentence and the number of candidates tried.
+fn sweep_word(r: Result<Swept, Refusal>, found: &mut [u64]) -> u64
+    ensures word { result ≡ packed (sweep_told r) (told_line r) }
+    ensures sentence { AtFront 23 (found_words (sweep_sentence r) (sweep_tried r)) found.old
+        found.new }
+{
+    match r {
+        Ok(s) => match s.found {
+            Some(w) => {
+                put_found(found, w, s.tried);
+                pack(Answer::Two, 0)
+            }
+            None => {
+                put_found(found, nothing(), s.tried);
+                pack(Answer::Clear, 0)
+            }
+        },
+        Err(e) => {
+            put_found(found, nothing(), 0);
+            pack_refusal(e)
+        }
+    }
+}
+
+// The answer of a call that gives a list as a number; `count` gets its number of entries.
+fn list_word(r: Result<usize, Refusal>, count: &mut [u64]) -> u64
+    ensures word { result ≡ packed (list_told r) (told_line r) }
+    ensures entries { AtFront 1 (entry_count r ∷ []) count.old count.new }
+{
+    match r {
+        Ok(n) => {
+            put_one(count, n);
+            pack(Answer::Given, 0)
+        }
+        Err(e) => {
+            put_one(count, 0);
+            pack_refusal(e)
+        }
+    }
+}
+
+// What the test at every length tells as a number; `count` gets the number of entries.
+fn always_word(r: Result<Told, Refusal>, count: &mut [u64]) -> u64
+    ensures word { result ≡ told_packed r }
+    ensures entries { AtFront 1 (always_count r ∷ []) count.old count.new }
+{
+    match r {
+        Ok(Told::Unknown(n)) => put_one(count, n),
+        _ => put_one(count, 0),
+    }
+    pack_told(r)
+}
 
 // The verdict: its code times 2^32 plus the line's number. The words get the span sheet.
 pub fn teplonga_verdict(rules: &[u8], tokens: &[u8], words: &mut [u64]) -> u64
     ensures { VerdictWord (sheets rules.now tokens.now)
         words.old words.new result }
 {
-    let p = teplonga::verdict(rules, tokens, words);
-    let a = p.answer;
-    pack(a, p.line)
+    verdict_word(teplonga::verdict(rules, tokens, words))
 }
 
 // The trees: the verdict's code times 2^32 plus the line's number. The words get the span sheet,
@@ -49,10 +141,8 @@ pub fn teplonga_trees(
         second.old second.new counts.old counts.new
         result }
 {
-    let p = teplonga::trees(rules, tokens, words, first, second);
-    let a = p.answer;
-    put_counts(counts, p.first, p.second);
-    pack(a, p.line)
+    let r = teplonga::trees(rules, tokens, words, first, second);
+    trees_word(r, counts)
 }
 
 // The sweep: its code times 2^32 plus the line's number. `found` gets the answer's sentence and the
@@ -61,11 +151,7 @@ pub fn teplonga_sweep(rules: &[u8], bound: usize, words: &mut [u64], found: &mut
     ensures { SweepWord (rule_sheet rules.now) bound words.old
         words.new found.old found.new result }
 {
-    let p = teplonga::sweep(rules, bound, words);
-    let a = p.answer;
-    let s = p.sentence;
-    put_found(found, s, p.tried);
-    pack(a, p.line)
+    sweep_word(teplonga::sweep(rules, bound, words), found)
 }
 
 // The refused line itself, as a part of the sheet that holds it. An exported function returns no
@@ -83,12 +169,16 @@ pub fn teplonga_rows(rules: &[u8], tokens: &[u8], words: &mut [u64], counts: &mu
     ensures { RowsWord rules.now tokens.now words.old
         words.new counts.old counts.new result }
 {
-    let p = call_rows::rows(rules, tokens, words);
-    let a = p.answer;
-    let first = p.first;
-    let second = p.second;
-    put_counts(counts, count(first), count(second));
-    pack(a, p.line)
+    match call_rows::rows(rules, tokens, words) {
+        Ok(r) => {
+            put_counts(counts, count(r.first), count(r.second));
+            pack(r.verdict.into(), 0)
+        }
+        Err(e) => {
+            put_counts(counts, 0, 0);
+            pack_refusal(e)
+        }
+    }
 }
 
 // The places: the verdict's code times 2^32 plus the line's number. The words get the span sheet,
@@ -104,10 +194,16 @@ pub fn teplonga_places(
         words.new list.old list.new count.old
         count.new result }
 {
-    let p = call_places::places(rules, tokens, words, list);
-    let a = p.answer;
-    put_one(count, p.count);
-    pack(a, p.line)
+    match call_places::places(rules, tokens, words, list) {
+        Ok(r) => {
+            put_one(count, r.count);
+            pack(r.verdict.into(), 0)
+        }
+        Err(e) => {
+            put_one(count, 0);
+            pack_refusal(e)
+        }
+    }
 }
 
 // The verdict: its code times 2^32 plus the line's number. The words get the span sheet.
@@ -115,9 +211,7 @@ pub fn teplonga_clause_verdict(clauses: &[u8], tokens: &[u8], words: &mut [u64])
     ensures { VerdictWord (clause_sheets_of clauses.now tokens.now)
         words.old words.new result }
 {
-    let p = call_clauses::verdict(clauses, tokens, words);
-    let a = p.answer;
-    pack(a, p.line)
+    verdict_word(call_clauses::verdict(clauses, tokens, words))
 }
 
 // The trees: the verdict's code times 2^32 plus the line's number. The words get the span sheet,
@@ -135,10 +229,8 @@ pub fn teplonga_clause_trees(
         second.old second.new counts.old counts.new
         result }
 {
-    let p = call_clauses::trees(clauses, tokens, words, first, second);
-    let a = p.answer;
-    put_counts(counts, p.first, p.second);
-    pack(a, p.line)
+    let r = call_clauses::trees(clauses, tokens, words, first, second);
+    trees_word(r, counts)
 }
 
 // The sweep: its code times 2^32 plus the line's number. `found` gets the answer's sentence and the
@@ -152,11 +244,7 @@ pub fn teplonga_clause_sweep(
     ensures { SweepWord (clause_sheet clauses.now) bound words.old
         words.new found.old found.new result }
 {
-    let p = call_clauses::sweep(clauses, bound, words);
-    let a = p.answer;
-    let s = p.sentence;
-    put_found(found, s, p.tried);
-    pack(a, p.line)
+    sweep_word(call_clauses::sweep(clauses, bound, words), found)
 }
 
 // The expanded rule sheet: the code of `given` or of a refusal times 2^32 plus the line's number.
@@ -165,10 +253,7 @@ pub fn teplonga_expand(clauses: &[u8], sheet: &mut [u8], count: &mut [u64]) -> u
     ensures { ExpandWord clauses.now sheet.old sheet.new
         count.old count.new result }
 {
-    let p = call_clauses::expand(clauses, sheet);
-    let a = p.answer;
-    put_one(count, p.count);
-    pack(a, p.line)
+    list_word(call_clauses::expand(clauses, sheet), count)
 }
 
 // The refused line itself, as a part of the sheet that holds it. An exported function returns no
@@ -197,10 +282,8 @@ pub fn teplonga_show(
         second.old second.new counts.old counts.new
         result }
 {
-    let p = call_rights::show(rules, tokens, rights, user, words, first, second);
-    let a = p.answer;
-    put_counts(counts, p.first, p.second);
-    pack(a, p.line)
+    let r = call_rights::show(rules, tokens, rights, user, words, first, second);
+    trees_word(r, counts)
 }
 
 // The changed sheet: the answer's code times 2^32 plus the line's number. `bytes` gets the sheet,
@@ -218,10 +301,8 @@ pub fn teplonga_change(
         lay.now bytes.old bytes.new count.old
         count.new result }
 {
-    let p = call_rights::change(rules, rights, user, rule, lay, bytes);
-    let a = p.answer;
-    put_one(count, p.count);
-    pack(a, p.line)
+    let r = call_rights::change(rules, rights, user, rule, lay, bytes);
+    list_word(r, count)
 }
 
 // A share: its code times 2^32 plus the line's number. `numbers` gets the lowest number, the
@@ -239,16 +320,31 @@ pub fn teplonga_share(
         words.new numbers.old numbers.new found.old
         found.new result }
 {
-    let p = call_shares::share(rules, length, racks, index, words);
-    let a = p.answer;
-    let s = p.sentence;
-    put_numbers(numbers, p.number, p.quotient, p.remainder);
-    put_found_sentence(found, s);
-    pack(a, p.line)
+    match call_shares::share(rules, length, racks, index, words) {
+        Ok(r) => {
+            put_numbers(numbers, r.number, r.quotient, r.remainder);
+            match r.sentence {
+                Some(s) => {
+                    put_found_sentence(found, s);
+                    pack(Answer::Two, 0)
+                }
+                None => {
+                    put_found_sentence(found, nothing());
+                    pack(Answer::Clear, 0)
+                }
+            }
+        }
+        Err(e) => {
+            put_numbers(numbers, 0, 0, 0);
+            put_found_sentence(found, nothing());
+            pack_refusal(e)
+        }
+    }
 }
 
 // Which of two reports is the merged one: 0 the first, 1 the second. A report is what
 // `teplonga_share` answers, the lowest number and the length of the sentence.
+// Kept: numbers for reports and for the answer, which the C interface has (`MergeWord`).
 pub fn teplonga_merge(
     one: u64,
     number: u64,
@@ -277,11 +373,23 @@ pub fn teplonga_columns(rules: &[u8], ranges: &[u8], words: &mut [u64], found: &
     ensures { ColumnsWord rules.now ranges.now words.old
         words.new found.old found.new result }
 {
-    let p = call_columns::columns(rules, ranges, words);
-    let a = p.answer;
-    let f = p.found;
-    put_flags(found, f);
-    pack(a, p.line)
+    match call_columns::columns(rules, ranges, words) {
+        Ok(f) => {
+            put_flags(found, f);
+            pack(Answer::Given, 0)
+        }
+        Err(e) => {
+            put_flags(
+                found,
+                Flags {
+                    none: false,
+                    one: false,
+                    two: false,
+                },
+            );
+            pack_refusal(e)
+        }
+    }
 }
 
 // The refused line itself, as a part of the sheet that holds it. An exported function returns no
@@ -300,10 +408,7 @@ pub fn teplonga_always(rules: &[u8], words: &mut [u64], list: &mut [u8], count: 
         words.new list.old list.new count.old
         count.new result }
 {
-    let p = call_always::always(rules, words, list);
-    let t = p.told;
-    put_one(count, p.count);
-    pack_told(t, p.line)
+    always_word(call_always::always(rules, words, list), count)
 }
 
 // The same for a clause sheet; the rules of the entries are those of its expansion.
@@ -317,8 +422,5 @@ pub fn teplonga_clause_always(
         words.new list.old list.new count.old
         count.new result }
 {
-    let p = call_always::clauses_always(clauses, words, list);
-    let t = p.told;
-    put_one(count, p.count);
-    pack_told(t, p.line)
+    always_word(call_always::clauses_always(clauses, words, list), count)
 }

@@ -10,7 +10,6 @@ use Rattle.grammar.specs.declared.Token.{Token}
 use Rattle.grammar.specs.declared.Sentence.{Sentence}
 use Rattle.grammar.specs.Layout.{Word, line, col}
 use Rattle.printing.specs.Printing.{Wrote}
-use Rattle.printing.proofs.Writing.{wrote_then}
 use Rattle.c_words.specs.Words.{token_words, sentence_words, found_words, AtFront, few, written}
 
 words_snoc : (w : Word) (t : Token)
@@ -54,12 +53,3 @@ front_settled e (few l x) (few m y) = x ∙ sym y
 front_settled e (few l x) (written m y) = absurd (omega arith)
 front_settled e (written l x) (few m y) = absurd (omega arith)
 front_settled e (written l x) (written m y) = x ∙ rw e (sym y)
-
--- two words put where there are two
-pub front_two : {old mid new : List ℕ} {a b r s : ℕ} → 2 ≤ length old → Wrote old mid 0 (a ∷ []) r
-    → Wrote mid new r (b ∷ []) s → AtFront 2 (a ∷ b ∷ []) old new
-front_two h v w = written h (wrote_front refl (wrote_then v w))
-
--- none put where there are fewer
-pub front_few : {old : List ℕ} {n : ℕ} {ws : List ℕ} → length old < n → AtFront n ws old old
-front_few h = few h refl

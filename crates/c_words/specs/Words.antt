@@ -1,10 +1,10 @@
 -- Numbers in lent words: a sentence, row counts, flags and the numbers of a share as words, and
 -- words at the front of the lent ones.
-use Rattle.std.specs.Prelude.{◌≡◌, Bool, true, false, List, [], ◌∷◌, ◌++◌, ℕ, ◌≤◌, ◌<◌, length}
+use Rattle.std.specs.Prelude.{Option, Some, None, ◌≡◌, Bool, true, false, List, [], ◌∷◌, ◌++◌, ℕ}
+use Rattle.std.specs.Prelude.{◌≤◌, ◌<◌, length}
 use Rattle.std.specs.Prelude.{take, drop}
 use Rattle.grammar.specs.declared.Sentence.{Sentence}
 use Rattle.grammar.specs.Layout.{Word, line, col}
-use Rattle.row_counts.specs.declared.RowCount.{RowCount}
 use Rattle.column_search.specs.declared.Flags.{Flags}
 
 -- n words stand at the front of the lent ones, and those past them are unchanged; fewer than n lent
@@ -31,9 +31,9 @@ abbrev pub count_words : ℕ → ℕ → List ℕ
 count_words m n = m ∷ n ∷ []
 
 -- a row count as a number: 4,294,967,296 for `more`
-abbrev pub count_word : RowCount → ℕ
-count_word (RowCount.Exact c) = c
-count_word RowCount.More = 4294967296
+abbrev pub count_word : Option ℕ → ℕ
+count_word (Some c) = c
+count_word None = 4294967296
 
 -- the lowest number, M ÷ p and its remainder as three words
 abbrev pub share_words : ℕ → ℕ → ℕ → List ℕ

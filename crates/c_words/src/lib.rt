@@ -4,16 +4,16 @@
 ghost use Rattle.std.specs.Prelude.{◌≡◌, [], ◌∷◌, ◌+◌, ◌≤◌, ◌<◌, length, take};
 ghost use Rattle.grammar.specs.Layout.{line as line_of, col};
 ghost use Rattle.printing.specs.Printing.{Wrote};
-ghost use Rattle.c_words.specs.Codes.{code_of, told_code, with_line_of, packed, told_packed};
+ghost use Rattle.sheets.specs.declared.Answer.TheVariants as Answer;
+ghost use Rattle.c_words.specs.Codes.{code_of, with_line_of, packed, told_packed};
 ghost use Rattle.c_words.specs.Words.{token_words, sentence_words, found_words, AtFront};
 ghost use Rattle.c_words.specs.Words.{count_word, count_words, share_words};
-ghost use Rattle.c_words.specs.Words.{flag_word, flag_words};
+ghost use Rattle.c_words.specs.Words.{flag_words};
 
 use call_always::Told;
 use column_search::Flags;
 use grammar::{Sentence, Token};
-use row_counts::RowCount;
-use sheets::{Answer, fault_number};
+use sheets::{Answer, Refusal};
 
 // The code of an answer.
 fn code(a: Answer) -> u64
@@ -26,19 +26,7 @@ fn code(a: Answer) -> u64
         Answer::Two => 2,
         Answer::Clear => 3,
         Answer::Given => 4,
-        Answer::Refused(f) => 100 + fault_number(f),
-    }
-}
-
-// The code of what is told.
-fn told_code(t: Told) -> u64
-    ensures value { result ≡ told_code t }
-    ensures upper_bound { result < 200 }
-{
-    match t {
-        Told::Clear => 3,
-        Told::Unknown => 5,
-        Told::Refused(f) => 100 + fault_number(f),
+        Answer::Refused(f) => 100 + u64::from(f),
     }
 }
 
@@ -61,20 +49,32 @@ pub fn pack(a: Answer, line: usize) -> u64
     with_line(code(a), line)
 }
 
-// What the test at every length tells and its line as one number.
-pub fn pack_told(t: Told, line: usize) -> u64
-    ensures { result ≡ told_packed t line }
+// A refusal and its line as one number.
+pub fn pack_refusal(e: Refusal) -> u64
+    ensures { result ≡ packed (Answer.Refused e.fault) e.line }
 {
-    with_line(told_code(t), line)
+    pack(Answer::Refused(e.fault), e.line)
+}
+
+// What the test at every length tells and its line as one number.
+pub fn pack_told(r: Result<Told, Refusal>) -> u64
+    ensures { result ≡ told_packed r }
+{
+    match r {
+        Ok(Told::Clear) => with_line(3, 0),
+        Ok(Told::Unknown(_)) => with_line(5, 0),
+        Err(e) => pack_refusal(e),
+    }
 }
 
 // A row count as a number: 4,294,967,296 where there are more than 4,294,967,295 rows.
-pub fn count(c: RowCount) -> usize
+// Kept: a number for more, as the C interface hands it over (`count_word`).
+pub fn count(c: Option<u32>) -> usize
     ensures { result ≡ count_word c }
 {
     match c {
-        RowCount::Exact(n) => n as usize,
-        RowCount::More => 4294967296,
+        Some(n) => n as usize,
+        None => 4294967296,
     }
 }
 
@@ -104,12 +104,9 @@ fn put_tokens(found: &mut [u64], at: usize, s: Sentence) -> usize
     ensures { Wrote found.old found.new at
         (token_words (take 7 s.tokens)) result }
 {
-    let mut i = 0;
     let mut next = at;
-    while i < 7 {
-        let t = s.tokens[i];
-        next = put_token(found, next, t);
-        i += 1;
+    for t in &s.tokens[..7] {
+        next = put_token(found, next, *t);
     }
     next
 }
@@ -133,25 +130,28 @@ pub fn put_found(found: &mut [u64], s: Sentence, tried: u64)
     }
 }
 
+// Words at the front of the lent ones, where these are enough.
+fn put_front<const N: usize>(lent: &mut [u64], words: [u64; N])
+    ensures { AtFront N words.entry lent.old lent.new }
+{
+    if N <= lent.len() {
+        lent[..N].copy_from_slice(&words);
+    }
+}
+
 // A number, where there is a lent word for it.
 pub fn put_one(lent: &mut [u64], n: usize)
     ensures { AtFront 1 (n ∷ []) lent.old lent.new }
 {
-    if 1 <= lent.len() {
-        put_word(lent, 0, n as u64);
-    }
+    put_front(lent, [n as u64]);
 }
 
 // The row counts of both trees, where the lent words are enough for them.
-#[tactic(auto, using(crate::proofs::Words::front_two, crate::proofs::Words::front_few))]
 pub fn put_counts(counts: &mut [u64], first: usize, second: usize)
     ensures { AtFront 2 (count_words first second) counts.old
         counts.new }
 {
-    if 2 <= counts.len() {
-        let next = put_word(counts, 0, first as u64);
-        put_word(counts, next, second as u64);
-    }
+    put_front(counts, [first as u64, second as u64]);
 }
 
 // The sentence, where the lent words are enough for it.
@@ -168,30 +168,12 @@ pub fn put_numbers(numbers: &mut [u64], number: u64, quotient: u64, remainder: u
     ensures { AtFront 3 (share_words number quotient remainder) numbers.old
         numbers.new }
 {
-    if 3 <= numbers.len() {
-        let a = put_word(numbers, 0, number);
-        let b = put_word(numbers, a, quotient);
-        put_word(numbers, b, remainder);
-    }
+    put_front(numbers, [number, quotient, remainder]);
 }
 
-// Yes is 1, no is 0.
-fn bit(b: bool) -> u64
-    ensures { result ≡ flag_word b }
-{
-    if b {
-        return 1;
-    }
-    0
-}
-
-// The three flags, where the lent words are enough for them.
+// The three flags, 1 for yes and 0 for no, where the lent words are enough for them.
 pub fn put_flags(found: &mut [u64], f: Flags)
     ensures { AtFront 3 (flag_words f) found.old found.new }
 {
-    if 3 <= found.len() {
-        let a = put_word(found, 0, bit(f.none));
-        let b = put_word(found, a, bit(f.one));
-        put_word(found, b, bit(f.two));
-    }
+    put_front(found, [f.none.into(), f.one.into(), f.two.into()]);
 }

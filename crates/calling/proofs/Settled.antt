@@ -3,6 +3,7 @@
 use mathlib.Core.Path.{◌≡◌, sym, ◌∙◌}
 use mathlib.Core.List.{List}
 use Prim.Native.Nat.{ℕ}
+use Rattle.std.specs.Prelude.{Option, Some, None}
 use native.Mathlib.Omega.{arith}
 use Rattle.always_text.proofs.Settled.{always_text_settled}
 use Rattle.call_sheets.specs.CallSheets.{call_of}
@@ -50,14 +51,14 @@ two_text_settled call (TwoSheets.Show u) s t a b x y =
     two_settled (λ _ _ _ _. show_text_settled) x y
 two_text_settled call (TwoSheets.Change u r at) s t a b x y = change_text_settled x y
 
-call_settled : (sheet : List ℕ) (c : Call) (behind : List ℕ) {a b : List ℕ}
+call_settled : (sheet : List ℕ) (c : Option Call) (behind : List ℕ) {a b : List ℕ}
     → CallText sheet c behind a → CallText sheet c behind b → a ≡ b
-call_settled sheet Call.Always behind x y = always_text_settled x y
-call_settled sheet Call.ClausesAlways behind x y = always_text_settled x y
-call_settled sheet (Call.On (Sheets.One c)) behind x y = one_text_settled c behind _ _ x y
-call_settled sheet (Call.On (Sheets.Two c)) behind x y =
+call_settled sheet (Some Call.Always) behind x y = always_text_settled x y
+call_settled sheet (Some Call.ClausesAlways) behind x y = always_text_settled x y
+call_settled sheet (Some (Call.On (Sheets.One c))) behind x y = one_text_settled c behind _ _ x y
+call_settled sheet (Some (Call.On (Sheets.Two c))) behind x y =
     two_settled (two_text_settled sheet c) x y
-call_settled sheet Call.Not behind x y = x ∙ sym y
+call_settled sheet None behind x y = x ∙ sym y
 
 pub calls_settled : (input : List ℕ) {a b : List ℕ} → CallsOf input a → CallsOf input b → a ≡ b
 calls_settled input (long l x) (long m y) = x ∙ sym y

@@ -1,6 +1,7 @@
 -- The program `calls`: its whole output for an input.
 use Rattle.std.specs.Prelude.{◌≡◌, List, ℕ, ◌-◌, ◌≤◌, ◌<◌, length, take, drop}
 use Rattle.std.proofs.Math.Option.{none, some}
+use Rattle.std.specs.Prelude.{Option, Some, None}
 use Rattle.always_text.specs.Always.{AlwaysText}
 use Rattle.call_sheets.specs.CallSheets.{call_of}
 use Rattle.call_sheets.specs.declared.Call.{Call}
@@ -70,11 +71,11 @@ SheetsText sheet (Sheets.One c) behind text = OneText c behind text
 SheetsText sheet (Sheets.Two c) behind text = OnTwoSheets (TwoText sheet c) behind text
 
 -- the output of a call
-abbrev pub CallText : List ℕ → Call → List ℕ → List ℕ → Type 0
-CallText sheet Call.Always behind text = AlwaysText (rule_sheet behind) text
-CallText sheet Call.ClausesAlways behind text = AlwaysText (clause_sheet behind) text
-CallText sheet (Call.On c) behind text = SheetsText sheet c behind text
-CallText sheet Call.Not behind text = Unwritten text
+abbrev pub CallText : List ℕ → Option Call → List ℕ → List ℕ → Type 0
+CallText sheet (Some Call.Always) behind text = AlwaysText (rule_sheet behind) text
+CallText sheet (Some Call.ClausesAlways) behind text = AlwaysText (clause_sheet behind) text
+CallText sheet (Some (Call.On c)) behind text = SheetsText sheet c behind text
+CallText sheet None behind text = Unwritten text
 
 -- the output: refused-31 for a longer input, refused-32 for one without an empty line, else that of
 -- the call

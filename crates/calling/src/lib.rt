@@ -15,7 +15,7 @@ use column_text::columns_text;
 use reports::merge_text;
 use rights_text::{change_text, show_text};
 use share_text::share_text;
-use text::{OUTPUT, Place, parting, put_refusal};
+use text::{OUTPUT, parting, put_refusal};
 use text_trees::{places_text, rows_text};
 
 // The call `show` on a rule sheet and the two sheets behind it, which the first empty line parts.
@@ -24,10 +24,9 @@ fn show_call(rules: &[u8], s: &[u8], user: u32, out: &mut [u8]) -> usize
     ensures { Printed (OnTwoSheets (ShownText user rules.now)) s.now
         out.old out.new result }
 {
-    let place = parting(s);
-    match place {
-        Place::Nowhere => put_refusal(out, 32),
-        Place::At(i) => {
+    match parting(s) {
+        None => put_refusal(out, 32),
+        Some(i) => {
             let j = i + 1;
             show_text(rules, &s[..i], &s[j..], user, out)
         }
@@ -79,10 +78,9 @@ fn on_parted(call: TwoSheets, sheet: &[u8], s: &[u8], out: &mut [u8]) -> usize
     ensures { Printed (OnTwoSheets (TwoText sheet.now call)) s.now
         out.old out.new result }
 {
-    let place = parting(s);
-    match place {
-        Place::Nowhere => put_refusal(out, 32),
-        Place::At(i) => {
+    match parting(s) {
+        None => put_refusal(out, 32),
+        Some(i) => {
             let j = i + 1;
             on_two(call, sheet, &s[..i], &s[j..], out)
         }
@@ -119,17 +117,19 @@ fn on_sheets(call: Sheets, sheet: &[u8], s: &[u8], out: &mut [u8]) -> usize
 // The answer to the call of a call sheet, on what follows it. The test at every length, which takes
 // most memory, is entered from here and not from among the others, so that it does not stand on
 // their buffers.
-fn answer(call: Call, sheet: &[u8], s: &[u8], out: &mut [u8]) -> usize
+fn answer(call: Option<Call>, sheet: &[u8], s: &[u8], out: &mut [u8]) -> usize
     requires in_bounds { 262144 ≤ length out.old }
     requires inside { Inside (length sheet.now) call }
     ensures { Printed (CallText sheet.now call) s.now
         out.old out.new result }
 {
-    match call {
+    let Some(known) = call else {
+        return put_refusal(out, 32);
+    };
+    match known {
         Call::Always => always_text(s, out),
         Call::ClausesAlways => clauses_always_text(s, out),
         Call::On(c) => on_sheets(c, sheet, s, out),
-        Call::Not => put_refusal(out, 32),
     }
 }
 
@@ -154,9 +154,8 @@ pub fn calls_text(input: &[u8], out: &mut [u8; OUTPUT]) -> usize
     if 16384 < input.len() {
         return put_refusal(out, 31);
     }
-    let place = parting(input);
-    match place {
-        Place::Nowhere => put_refusal(out, 32),
-        Place::At(i) => answer_at(input, i, out),
+    match parting(input) {
+        None => put_refusal(out, 32),
+        Some(i) => answer_at(input, i, out),
     }
 }

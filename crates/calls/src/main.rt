@@ -5,18 +5,8 @@
 
 use calling::calls_text;
 use std::process::ExitCode;
-use streams::{read_input, write_output};
-use text::OUTPUT;
+use streams::run;
 
 fn main(rt: HostRuntime) -> ExitCode {
-    let mut space = [0u8; 16385];
-    let Ok(n) = read_input(&rt, &mut space) else {
-        return ExitCode::FAILURE;
-    };
-    let mut out = [0u8; OUTPUT];
-    let r = calls_text(&space[..n], &mut out);
-    match write_output(&rt, &out[..r]) {
-        Ok(()) => ExitCode::SUCCESS,
-        Err(_) => ExitCode::FAILURE,
-    }
+    run(&rt, calls_text)
 }

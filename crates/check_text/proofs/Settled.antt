@@ -6,7 +6,9 @@ use Prim.Native.Nat.{ℕ}
 use native.Mathlib.Omega.{arith}
 use Rattle.answering.specs.Answers.{Sheets}
 use Rattle.answering.proofs.Settled.{Apart, sheets_apart}
+use Rattle.answering.specs.Results.{trees_told}
 use Rattle.answering.proofs.Lent.{trees_reply}
+use Rattle.sheets.specs.Results.{told_line}
 use Rattle.text.specs.Output.{answer_text, head, trees_text}
 use Rattle.text.specs.Printed.{Printed}
 use Rattle.text.proofs.Settled.{never_none, same_some, printed_settled}
@@ -17,8 +19,8 @@ pub trees_text_settled : {given : Sheets} {a b : List ℕ} → Apart given → T
 trees_text_settled d (answered l x p) (answered k y q) =
     let z = trees_reply (l.enough ∙ sym k.enough) (l.first ∙ sym k.first)
     (l.second ∙ sym k.second) d x y in
-    p ∙ (λ i. head (answer_text (z.0 i).answer) (z.0 i).line
-    ++ trees_text (z.0 i).answer (z.1.0 i) (z.1.1 i)) ∙ sym q
+    p ∙ (λ i. head (answer_text (trees_told (z.0 i))) (told_line (z.0 i))
+    ++ trees_text (trees_told (z.0 i)) (z.1.0 i) (z.1.1 i)) ∙ sym q
 
 pub check_settled : (input : List ℕ) {a b : List ℕ} → CheckOf input a → CheckOf input b → a ≡ b
 check_settled input (long l x) (long m y) = x ∙ sym y

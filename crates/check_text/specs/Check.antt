@@ -1,8 +1,11 @@
 -- The whole output of the program `check` for an input: docs/FORMAT.md, "The programs".
-use Rattle.std.specs.Prelude.{◌≡◌, List, ◌++◌, ℕ, ◌*◌, ◌≤◌, ◌<◌, length, take}
+use Rattle.std.specs.Prelude.{◌≡◌, List, ◌++◌, ℕ, ◌*◌, ◌≤◌, ◌<◌, length, take, Result}
 use Rattle.std.proofs.Math.Option.{none, some}
 use Rattle.answering.specs.Answers.{Sheets, sheets}
-use Rattle.answering.specs.declared.TreesReply.{TreesReply}
+use Rattle.answering.specs.declared.TreeRows.{TreeRows}
+use Rattle.answering.specs.Results.{trees_told, first_rows, second_rows}
+use Rattle.sheets.specs.declared.Refusal.{Refusal}
+use Rattle.sheets.specs.Results.{told_line}
 use Rattle.answering.specs.Trees.{TreesBy}
 use Rattle.text.specs.Input.{longest, Parts, parts}
 use Rattle.text.specs.Output.{refused_text_of, answer_text, head, trees_text}
@@ -15,10 +18,11 @@ pub record Lent (words one two : List ℕ) : Type 0 where
 
 -- the answer on two sheets that give this, and its trees
 pub data TreesText (given : Sheets) (text : List ℕ) : Type 0 where
-  answered : {words words' one one' two two' : List ℕ} {r : TreesReply} → Lent words one two
+  answered : {words words' one one' two two' : List ℕ} {r : Result TreeRows Refusal}
+      → Lent words one two
       → TreesBy given words words' one one' two two' r
-      → text ≡ head (answer_text r.answer) r.line ++ trees_text r.answer
-      (take (4 * r.first) one') (take (4 * r.second) two') → TreesText given text
+      → text ≡ head (answer_text (trees_told r)) (told_line r) ++ trees_text (trees_told r)
+      (take (4 * first_rows r) one') (take (4 * second_rows r) two') → TreesText given text
 
 -- the output of `check`: refused-31 for a longer input, refused-32 for one without an empty line,
 -- else the answer on the two sheets and its trees

@@ -22,43 +22,16 @@ use teplonga::sweep;
 use text::OUTPUT;
 
 // Writes how many candidates are tried.
-fn write_tried<R: Print>(rt: &R, case: &[u8]) -> io::Result<()> {
-    if case.len() < 6 {
+fn write_tried<R: Print>(rt: &R, asked: &[u8]) -> io::Result<()> {
+    let Some((bound, rules)) = asked.split_at_checked(5) else {
         return Ok(());
-    }
-    let bound = five(case, 1);
+    };
     let mut words = [0u64; 58];
-    let r = sweep(&case[6..], bound, &mut words);
-    rt.println(r.tried)
-}
-
-// The output of `show`: a rule sheet, a token sheet and a rights sheet, which end at a, at b and
-// where the case does.
-fn show(case: &[u8], a: usize, b: usize, out: &mut [u8]) -> usize
-    requires le_a { (26 ≤ a) × (a ≤ b) × (b ≤ length case.now) }
-    requires in_bounds { 262144 ≤ length out.old }
-    ensures { result ≤ length out.new }
-{
-    let user = five(case, 2);
-    show_text(&case[26..a], &case[a..b], &case[b..], user as u32, out)
-}
-
-// The output of `change`: a rule sheet, a rights sheet and the new mark.
-fn change(case: &[u8], a: usize, b: usize, out: &mut [u8]) -> usize
-    requires le_a { (26 ≤ a) × (a ≤ b) × (b ≤ length case.now) }
-    requires in_bounds { 262144 ≤ length out.old }
-    ensures { result ≤ length out.new }
-{
-    let user = five(case, 2);
-    let rule = five(case, 8);
-    change_text(
-        &case[26..a],
-        &case[a..b],
-        user as u32,
-        rule as u32,
-        &case[b..],
-        out,
-    )
+    let tried = match sweep(rules, five(bound, 0), &mut words) {
+        Ok(s) => s.tried,
+        Err(_) => 0,
+    };
+    rt.println(tried)
 }
 
 // Writes the length of the refused line, and the line.
@@ -69,35 +42,52 @@ fn write_line<'a, R: Print>(rt: &R, clauses: &'a [u8], tokens: &'a [u8]) -> io::
     rt.write_all(b"\n")
 }
 
-// The output of a call on parts of the case, and its length. In front of them stand the call's
-// letter, the user, the rule and the lengths of the first two parts, five digits each.
+// What a case asks of a call: its letter, the user and the rule, and its three parts.
+#[derive(Clone, Copy)]
+struct Asked<'a> {
+    kind: u8,
+    user: u32,
+    rule: u32,
+    first: &'a [u8],
+    second: &'a [u8],
+    third: &'a [u8],
+}
+
+// The same from the case. In front of the parts stand the call's letter, the user, the rule and the
+// lengths of the first two parts, five digits each.
+fn read_asked<'a>(case: &'a [u8]) -> Option<Asked<'a>> {
+    let (head, parts) = case.split_at_checked(26)?;
+    let (first, behind) = parts.split_at_checked(five(head, 14))?;
+    let (second, third) = behind.split_at_checked(five(head, 20))?;
+    Some(Asked {
+        kind: head[0],
+        user: five(head, 2) as u32,
+        rule: five(head, 8) as u32,
+        first,
+        second,
+        third,
+    })
+}
+
+// The output of a call on parts of the case, and its length.
 fn parts<R: Print>(rt: &R, case: &[u8], out: &mut [u8]) -> io::Result<usize>
     requires { 262144 ≤ length out.old }
     ensures within { IfOk result (λ n. n ≤ length out.new) }
     ensures failed { OnErr result (out.new ≡ out.old) }
 {
-    if case.len() < 26 {
+    let Some(a) = read_asked(case) else {
         return Ok(0);
+    };
+    match a.kind {
+        b'k' => Ok(clauses_text(a.first, a.second, out)),
+        b's' => Ok(show_text(a.first, a.second, a.third, a.user, out)),
+        b'm' => Ok(change_text(a.first, a.second, a.user, a.rule, a.third, out)),
+        b'l' => {
+            write_line(rt, a.first, a.second)?;
+            Ok(0)
+        }
+        _ => Ok(0),
     }
-    let a = 26 + five(case, 14);
-    let b = a + five(case, 20);
-    if case.len() < b {
-        return Ok(0);
-    }
-    if case[0] == b'l' {
-        write_line(rt, &case[26..a], &case[a..b])?;
-        return Ok(0);
-    }
-    if case[0] == b'k' {
-        return Ok(clauses_text(&case[26..a], &case[a..b], out));
-    }
-    if case[0] == b's' {
-        return Ok(show(case, a, b, out));
-    }
-    if case[0] == b'm' {
-        return Ok(change(case, a, b, out));
-    }
-    Ok(0)
 }
 
 // The output of a case, and its length; 0 where it is written already.
@@ -105,32 +95,27 @@ fn output<R: Print>(rt: &R, case: &[u8], out: &mut [u8; OUTPUT]) -> io::Result<u
     ensures within { IfOk result (λ n. n ≤ length out.new) }
     ensures failed { OnErr result (out.new ≡ out.old) }
 {
-    if case.len() < 1 {
+    let Some((kind, input)) = case.split_first() else {
         return Ok(0);
+    };
+    match *kind {
+        b'c' => Ok(check_text(input, out)),
+        b'w' => Ok(sweep_text(input, out)),
+        b'a' => Ok(calls_text(input, out)),
+        b't' => {
+            write_tried(rt, input)?;
+            Ok(0)
+        }
+        _ => parts(rt, case, out),
     }
-    if case[0] == b'c' {
-        return Ok(check_text(&case[1..], out));
-    }
-    if case[0] == b'w' {
-        return Ok(sweep_text(&case[1..], out));
-    }
-    if case[0] == b'a' {
-        return Ok(calls_text(&case[1..], out));
-    }
-    if case[0] == b't' {
-        write_tried(rt, case)?;
-        return Ok(0);
-    }
-    parts(rt, case, out)
 }
 
 // One case; whether there was one.
 fn case<R: Print, I: Read>(rt: &R, from: &mut I) -> io::Result<bool> {
     let mut space = [0u8; 100000];
-    let n = next_case(from, &mut space)?;
-    if n == 100000 {
+    let Some(n) = next_case(from, &mut space)? else {
         return Ok(false);
-    }
+    };
     let mut out = [0u8; OUTPUT];
     let r = output(rt, &space[..n], &mut out)?;
     rt.write_all(&out[..r])?;
@@ -140,8 +125,7 @@ fn case<R: Print, I: Read>(rt: &R, from: &mut I) -> io::Result<bool> {
 fn main(rt: HostRuntime) -> io::Result<()> {
     let mut input = rt.reader();
     for _ in 0..100000u32 {
-        let more = case(&rt, &mut input)?;
-        if !more {
+        if !case(&rt, &mut input)? {
             return Ok(());
         }
     }

@@ -10,10 +10,10 @@ ghost use Rattle.text.specs.Printed.{Printed};
 ghost use Rattle.clause_text.specs.Texts.{ExpandText};
 
 use call_clauses::{expand, sweep, trees};
-use printing::put_bytes;
-use sentence_text::put_sentence;
+use check_text::put_answered;
 use spans::SHEET_WORDS;
-use text::{put_head, put_trees};
+use sweep_text::put_swept;
+use text::put_sheet;
 
 // The answer on a clause sheet and a token sheet, and its trees.
 pub fn clauses_text(clauses: &[u8], tokens: &[u8], out: &mut [u8]) -> usize
@@ -25,9 +25,7 @@ pub fn clauses_text(clauses: &[u8], tokens: &[u8], out: &mut [u8]) -> usize
     let mut one = [0u8; 16384];
     let mut two = [0u8; 16384];
     let r = trees(clauses, tokens, &mut words, &mut one, &mut two);
-    let a = r.answer;
-    let n = put_head(out, a, r.line);
-    put_trees(out, n, a, &one, r.first, &two, r.second)
+    put_answered(out, r, &one, &two)
 }
 
 // The answer on a clause sheet and a bound, and the found sentence.
@@ -38,10 +36,7 @@ pub fn clauses_sweep_text(clauses: &[u8], k: u32, out: &mut [u8]) -> usize
 {
     let mut words = [0u64; 58];
     let r = sweep(clauses, k as usize, &mut words);
-    let a = r.answer;
-    let s = r.sentence;
-    let n = put_head(out, a, r.line);
-    put_sentence(out, n, a, s)
+    put_swept(out, r)
 }
 
 // The rule sheet that a clause sheet expands to.
@@ -52,8 +47,5 @@ pub fn expand_text(clauses: &[u8], out: &mut [u8]) -> usize
 {
     let mut sheet = [0u8; 4096];
     let r = expand(clauses, &mut sheet);
-    let a = r.answer;
-    let m = r.count;
-    let n = put_head(out, a, r.line);
-    put_bytes(out, n, &sheet[..m])
+    put_sheet(out, r, &sheet)
 }

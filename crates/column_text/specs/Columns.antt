@@ -1,11 +1,12 @@
 -- What the program `calls` writes for `columns`: the answer and its line, then `none one two` and
 -- yes or no for each.
-use Rattle.std.specs.Prelude.{◌≡◌, Bool, true, false, List, [], ◌∷◌, ◌++◌, ℕ, length}
+use Rattle.std.specs.Prelude.{◌≡◌, Bool, true, false, List, [], ◌∷◌, ◌++◌, ℕ, length, Result}
 use Rattle.sheets.specs.declared.Answer.{Answer}
 use Rattle.text.specs.Output.{answer_text, head}
 use Rattle.column_search.specs.declared.Flags.{Flags}
-use Rattle.call_columns.specs.declared.ColumnsReply.{ColumnsReply}
-use Rattle.call_columns.specs.Columns.{ColumnsOf}
+use Rattle.sheets.specs.declared.Refusal.{Refusal}
+use Rattle.sheets.specs.Results.{told_line}
+use Rattle.call_columns.specs.Columns.{ColumnsOf, columns_told, flags_of}
 
 -- yes or no
 abbrev pub flag_text : Bool → List ℕ
@@ -32,7 +33,8 @@ columns_text (Answer.Refused e) f = []
 
 -- the output for two sheets; it lends words enough for 64 tokens
 pub data ColumnsTextOf (rules ranges text : List ℕ) : Type 0 where
-  answered : {words words' : List ℕ} {r : ColumnsReply} → length words ≡ 4162
+  answered : {words words' : List ℕ} {r : Result Flags Refusal} → length words ≡ 4162
       → ColumnsOf rules ranges words words' r
-      → text ≡ head (answer_text r.answer) r.line ++ columns_text r.answer r.found
+      → text ≡ head (answer_text (columns_told r)) (told_line r)
+      ++ columns_text (columns_told r) (flags_of r)
       → ColumnsTextOf rules ranges text

@@ -5,7 +5,7 @@
 ghost use Rattle.std.specs.Prelude.{[], ◌∷◌, ◌++◌, ◌+◌, ◌≤◌, length};
 ghost use Rattle.printing.specs.Printing.{Wrote};
 ghost use Rattle.text.specs.Printed.{Printed};
-ghost use Rattle.column_text.specs.Columns.{flag_text, flag_lines, columns_text, ColumnsTextOf};
+ghost use Rattle.column_text.specs.Columns.{flag_text, flag_lines, ColumnsTextOf};
 
 use call_columns::columns;
 use column_search::Flags;
@@ -20,11 +20,11 @@ fn put_flag(out: &mut [u8], at: usize, b: bool, end: u8) -> usize
     ensures wrote { Wrote out.old out.new at (flag_text b ++ (end ∷ [])) result }
     ensures upper_bound { result ≤ at + 4 }
 {
-    if b {
-        let n = put_bytes(out, at, b"yes");
-        return put_byte(out, n, end);
-    }
-    let n = put_bytes(out, at, b"no");
+    let n = if b {
+        put_bytes(out, at, b"yes")
+    } else {
+        put_bytes(out, at, b"no")
+    };
     put_byte(out, n, end)
 }
 
@@ -39,21 +39,6 @@ fn put_flags(out: &mut [u8], at: usize, f: Flags) -> usize
     put_flag(out, c, f.two, 10)
 }
 
-// The flags, where the answer has them.
-fn put_given(out: &mut [u8], at: usize, a: Answer, f: Flags) -> usize
-    requires { at + 25 ≤ length out.old }
-    ensures { Wrote out.old out.new at (columns_text a f) result }
-{
-    match a {
-        Answer::None => at,
-        Answer::One => at,
-        Answer::Two => at,
-        Answer::Clear => at,
-        Answer::Given => put_flags(out, at, f),
-        Answer::Refused(_) => at,
-    }
-}
-
 // The whole output of the call `columns`; its length.
 pub fn columns_text(rules: &[u8], ranges: &[u8], out: &mut [u8]) -> usize
     requires { 262144 ≤ length out.old }
@@ -61,9 +46,11 @@ pub fn columns_text(rules: &[u8], ranges: &[u8], out: &mut [u8]) -> usize
         out.old out.new result }
 {
     let mut words = [0u64; SHEET_WORDS];
-    let r = columns(rules, ranges, &mut words);
-    let a = r.answer;
-    let f = r.found;
-    let n = put_head(out, a, r.line);
-    put_given(out, n, a, f)
+    match columns(rules, ranges, &mut words) {
+        Ok(f) => {
+            let n = put_head(out, Answer::Given, 0);
+            put_flags(out, n, f)
+        }
+        Err(e) => put_head(out, Answer::Refused(e.fault), e.line),
+    }
 }

@@ -3,188 +3,130 @@
 // sheet's length; byte 10), the rule sheet and the token sheet.
 #![tactic(auto)]
 
-ghost use Rattle.std.specs.Prelude.{◌+◌, ◌≤◌, length, IfOk};
+ghost use Rattle.std.specs.Prelude.{◌+◌, ◌≤◌, length, IfSome};
 
 use cases::five;
 use grammar::{BinaryMark, Clause, Grammar, Rule, Sentence, Token, UnaryMark};
-use sheets::{GrammarRead, Outcome, SentenceRead};
+use sheets::{Refusal, read_rules, read_tokens};
 use std::io;
 use streams::read_full;
 
-fn put<R: Print>(rt: &R, bytes: &[u8]) -> io::Result<()> {
-    rt.write_all(bytes)
-}
-
-fn put_number<R: Print>(rt: &R, n: u64) -> io::Result<()> {
-    rt.print(n)
-}
-
-// A number and a blank.
-fn put_field<R: Print>(rt: &R, n: u8) -> io::Result<()> {
-    put_number(rt, n as u64)?;
-    put(rt, b" ")
-}
-
-fn put_unary<R: Print>(rt: &R, m: UnaryMark) -> io::Result<()> {
+fn unary_name(m: UnaryMark) -> &'static str {
     match m {
-        UnaryMark::None => put(rt, b"none\n"),
-        UnaryMark::Offside => put(rt, b"offside\n"),
-        UnaryMark::Offalign => put(rt, b"offalign\n"),
-        UnaryMark::Single => put(rt, b"single\n"),
+        UnaryMark::None => "none",
+        UnaryMark::Offside => "offside",
+        UnaryMark::Offalign => "offalign",
+        UnaryMark::Single => "single",
     }
 }
 
-fn put_binary<R: Print>(rt: &R, m: BinaryMark) -> io::Result<()> {
+fn binary_name(m: BinaryMark) -> &'static str {
     match m {
-        BinaryMark::None => put(rt, b"none\n"),
-        BinaryMark::Align => put(rt, b"align\n"),
-        BinaryMark::Indent => put(rt, b"indent\n"),
+        BinaryMark::None => "none",
+        BinaryMark::Align => "align",
+        BinaryMark::Indent => "indent",
     }
 }
 
 // A rule as a line of a rule sheet.
 fn put_rule<R: Print>(rt: &R, r: Rule) -> io::Result<()> {
-    put_field(rt, r.left)?;
-    let c = r.clause;
-    match c {
-        Clause::Empty => put(rt, b"E - - none\n"),
-        Clause::Atom(a, b) => {
-            put(rt, b"A ")?;
-            put_field(rt, a)?;
-            if a == b {
-                put(rt, b"- ")?;
-            } else {
-                put_field(rt, b)?;
-            }
-            put(rt, b"none\n")
-        }
+    let left = r.left;
+    match r.clause {
+        Clause::Empty => println!(rt; "{left} E - - none"),
+        Clause::Atom(a, b) if a == b => println!(rt; "{left} A {a} - none"),
+        Clause::Atom(a, b) => println!(rt; "{left} A {a} {b} none"),
         Clause::Unary(a, m) => {
-            put(rt, b"U ")?;
-            put_field(rt, a)?;
-            put(rt, b"- ")?;
-            put_unary(rt, m)
+            let mark = unary_name(m);
+            println!(rt; "{left} U {a} - {mark}")
         }
         Clause::Binary(a, b, m) => {
-            put(rt, b"B ")?;
-            put_field(rt, a)?;
-            put_field(rt, b)?;
-            put_binary(rt, m)
+            let mark = binary_name(m);
+            println!(rt; "{left} B {a} {b} {mark}")
         }
     }
 }
 
 // A token as a line of a token sheet with widths.
 fn put_token<R: Print>(rt: &R, t: Token) -> io::Result<()> {
-    put_field(rt, t.terminal)?;
-    put_number(rt, t.line.0 as u64)?;
-    put(rt, b" ")?;
-    put_number(rt, t.column.0 as u64)?;
-    put(rt, b" ")?;
-    put_number(rt, t.width.0 as u64)?;
-    put(rt, b"\n")
+    let terminal = t.terminal;
+    let line = t.line.0;
+    let column = t.column.0;
+    let width = t.width.0;
+    println!(rt; "{terminal} {line} {column} {width}")
 }
 
+// The line of a refused sheet: the refusal, and the line that it names.
+fn put_refused<R: Print>(rt: &R, sheet: &str, e: Refusal) -> io::Result<()> {
+    let number = u64::from(e.fault);
+    let line = e.line;
+    println!(rt; "{sheet} refused-{number} {line}")
+}
+
+// The rules of an accepted sheet, with their number in front.
 fn put_rules<R: Print>(rt: &R, g: Grammar) -> io::Result<()> {
     let count = g.count;
-    for p in 0..128usize {
-        if count <= p {
-            return Ok(());
-        }
-        let r = g.rules[p];
-        put_rule(rt, r)?;
+    println!(rt; "rules accepted {count}")?;
+    for r in g.rules.iter().take(count) {
+        put_rule(rt, *r)?;
     }
     Ok(())
 }
 
+// The tokens of an accepted sheet, with their number in front.
 fn put_tokens<R: Print>(rt: &R, s: Sentence) -> io::Result<()> {
     let count = s.count;
-    for p in 0..64usize {
-        if count <= p {
-            return Ok(());
-        }
-        let t = s.tokens[p];
-        put_token(rt, t)?;
+    println!(rt; "tokens accepted {count}")?;
+    for t in s.tokens.iter().take(count) {
+        put_token(rt, *t)?;
     }
     Ok(())
-}
-
-// What became of a sheet: `accepted` with the number of items, or the refusal with its line.
-fn put_outcome<R: Print>(rt: &R, o: Outcome, count: usize) -> io::Result<()> {
-    match o {
-        Outcome::Accepted => {
-            put(rt, b" accepted ")?;
-            put_number(rt, count as u64)?;
-        }
-        Outcome::Refused(f, l) => {
-            put(rt, b" refused-")?;
-            put_number(rt, sheets::fault_number(f))?;
-            put(rt, b" ")?;
-            put_number(rt, l as u64)?;
-        }
-    }
-    put(rt, b"\n")
-}
-
-fn put_reading<R: Print>(rt: &R, g: GrammarRead) -> io::Result<()> {
-    let grammar = g.grammar;
-    let outcome = g.outcome;
-    put(rt, b"rules")?;
-    put_outcome(rt, outcome, grammar.count)?;
-    put_rules(rt, grammar)
-}
-
-fn put_sentence<R: Print>(rt: &R, t: SentenceRead) -> io::Result<()> {
-    let sentence = t.sentence;
-    let outcome = t.outcome;
-    put(rt, b"tokens")?;
-    put_outcome(rt, outcome, sentence.count)?;
-    put_tokens(rt, sentence)
 }
 
 // What the readers make of a pair.
 fn show<'a, R: Print>(rt: &R, rules: &'a [u8], tokens: &'a [u8]) -> io::Result<()> {
-    put_reading(rt, sheets::read_rules(rules))?;
-    put_sentence(rt, sheets::read_tokens(tokens))?;
+    match read_rules(rules) {
+        Ok(book) => put_rules(rt, book.grammar)?,
+        Err(e) => put_refused(rt, "rules", e)?,
+    }
+    match read_tokens(tokens) {
+        Ok(s) => put_tokens(rt, s)?,
+        Err(e) => put_refused(rt, "tokens", e)?,
+    }
     let line = teplonga::refused_line(rules, tokens);
-    put(rt, b"line ")?;
-    put_number(rt, line.len() as u64)?;
-    put(rt, b"\n")?;
-    put(rt, line)?;
-    put(rt, b"\n")
+    let length = line.len();
+    println!(rt; "line {length}")?;
+    rt.write_all(line)?;
+    rt.write_all(b"\n")
 }
 
-// The pair that begins at a place; the place behind it, or `at` where no whole pair stands there.
-fn pair<R: Print>(rt: &R, s: &[u8], at: usize) -> io::Result<usize>
-    requires { at ≤ length s.now }
-    ensures { IfOk result (λ n. n ≤ length s.now) }
+// The two sheets of a pair, and what stands behind them.
+#[derive(Clone, Copy)]
+struct Pair<'a> {
+    rules: &'a [u8],
+    tokens: &'a [u8],
+    rest: &'a [u8],
+}
+
+// The pair at the front, if a whole one stands there.
+fn first_pair<'a>(s: &'a [u8]) -> Option<Pair<'a>>
+    ensures { IfSome result (λ p. length p.rest.now + 12 ≤ length s.now) }
 {
-    if s.len() - at < 12 {
-        return Ok(at);
-    }
-    let start = at + 12;
-    let rules = five(s, at);
-    let tokens = five(s, at + 6);
-    if s.len() - start < rules {
-        return Ok(at);
-    }
-    let middle = start + rules;
-    if s.len() - middle < tokens {
-        return Ok(at);
-    }
-    let end = middle + tokens;
-    show(rt, &s[start..middle], &s[middle..end])?;
-    Ok(end)
+    let (head, sheets) = s.split_at_checked(12)?;
+    let (rules, behind) = sheets.split_at_checked(five(head, 0))?;
+    let (tokens, rest) = behind.split_at_checked(five(head, 6))?;
+    Some(Pair {
+        rules,
+        tokens,
+        rest,
+    })
 }
 
 // Every pair, one after the other.
 fn pairs<R: Print>(rt: &R, s: &[u8]) -> io::Result<()> {
-    let mut at: usize = 0;
-    while at < s.len() {
-        let next = pair(rt, s, at)?;
-        if next <= at {
-            return Ok(());
-        }
-        at = next;
+    let mut rest = s;
+    while let Some(p) = first_pair(rest) {
+        show(rt, p.rules, p.tokens)?;
+        rest = p.rest;
     }
     Ok(())
 }

@@ -1,4 +1,5 @@
 -- A report's text is fixed bytes and what follows them.
+use Rattle.std.specs.Prelude.{Some, None}
 use mathlib.Core.Path.{◌≡◌, ap, ◌∙◌}
 use mathlib.Core.List.{List, [], ◌∷◌, ◌++◌, append-nil, append_assoc}
 use Prim.Native.Nat.{ℕ, ◌-◌}
@@ -12,9 +13,9 @@ use Rattle.printing.proofs.Decimals.{decimal_one}
 use Rattle.sheets.specs.declared.Fault.{Fault}
 use Rattle.sheets.specs.Refusals.{number_of}
 use Rattle.sheets.specs.TokenSheets.{token_names}
-use Rattle.sheets.specs.declared.Answer.TheVariants as Answer
 use Rattle.text.specs.Output.{answer_names, refused_text_of, head}
-use Rattle.call_shares.specs.Share.{share_reply_of, share_refusal}
+use Rattle.call_shares.specs.Share.{share_reply_of}
+use Rattle.sheets.specs.Results.{refusal}
 use Rattle.share_text.specs.Shares.{share_lines, report_text}
 use Rattle.reports.specs.Rests.{pair_text}
 
@@ -45,20 +46,20 @@ refused_word = 114 ∷ 101 ∷ 102 ∷ 117 ∷ 115 ∷ 101 ∷ 100 ∷ 45 ∷ []
 nought : decimal 0 ≡ 48 ∷ []
 nought = decimal_one 0 (omega arith)
 
-pub clear_begins : (q m : ℕ) → report_text (share_reply_of Answer.Clear 0 q m []) ≡ clear_start
+pub clear_begins : (q m : ℕ) → report_text (share_reply_of 0 q m None) ≡ clear_start
     ++ pair_text q m (45 ∷ 10 ∷ [])
 unfolding share_lines
 clear_begins q m = simp (nought, append_assoc, append-nil)
 
 pub two_begins : (N q m : ℕ) (w : Word)
-    → report_text (share_reply_of Answer.Two N q m w) ≡ two_start
+    → report_text (share_reply_of N q m (Some w)) ≡ two_start
     ++ pair_text q m (decimal N ++ (10 ∷ (token_names ++ (10 ∷ token_lines w))))
 unfolding share_lines
 two_begins N q m w =
     rw (take-append_seam w (replicate (64 - length w) no_token)) (simp (nought, append_assoc))
 
 pub refusal_begins : (f : Fault) (l : ℕ)
-    → report_text (share_refusal f l) ≡ refused_start
+    → report_text (refusal f l) ≡ refused_start
     ++ (decimal (number_of f) ++ (32 ∷ (decimal l ++ (10 ∷ []))))
 refusal_begins f l =
     let h = head (refused_text_of (number_of f)) l in

@@ -1,5 +1,6 @@
 -- Token lines counted to the end of a text.
 use mathlib.Core.Path.{◌≡◌, refl, sym, ap, ◌∙◌}
+use mathlib.Core.Logic.{◌⊎◌, inl, inr}
 use mathlib.Core.List.{List, [], ◌∷◌, ◌++◌, append-nil}
 use Prim.Native.Nat.{ℕ, ◌+◌, ◌≤◌, ◌<◌}
 use native.Mathlib.Omega.{arith}
@@ -9,11 +10,8 @@ use Rattle.grammar.specs.Layout.{Word, Every}
 use Rattle.printing.specs.Printing.{token_text_of, token_lines}
 use Rattle.reports.specs.Reports.{ReportToken}
 use Rattle.reports.specs.Rests.{TokenTo, NoToken, Tokens, Lines}
-use Rattle.reports.proofs.TokenTexts.{Left, lines_left, lines_more, every_more, token_some}
-
-no_lines : (w : Word) → length w ≡ 0 → token_lines w ≡ []
-no_lines [] e = refl
-no_lines (t ∷ w) e = absurd (omega arith)
+use Rattle.reports.proofs.TokenTexts.{Left, lines_left, lines_more, every_more}
+use Rattle.std.specs.Prelude.{Some, None}
 
 module _ (s : List ℕ) (at : ℕ) where
   -- n token lines stand before i
@@ -29,12 +27,11 @@ module _ (s : List ℕ) (at : ℕ) where
   counted_none h =
       record { inside = h; few = omega arith; word = []; good = tt; count = refl; is = refl }
 
-  pub counted_more : {n i next : ℕ} → Counted n i → (n ≡ 7 → ⊥) → TokenTo s i next
-      → Counted (n + 1) next
+  pub counted_more : {n i next : ℕ} → Counted n i → n < 7 → TokenTo s i next → Counted (n + 1) next
   counted_more {n} {i} {next} x f t =
       record {
         inside = t.inside;
-        few = omega (arith, x.few);
+        few = omega arith;
         word = x.word ++ (t.token ∷ []);
         good = every_more x.word t.token x.good t.good;
         count = omega (arith, length-append x.word (t.token ∷ []), x.count);
@@ -42,12 +39,8 @@ module _ (s : List ℕ) (at : ℕ) where
             ∙ sym (lines_more x.word t.token (drop next s));
       }
 
-  -- more than seven lines, or anything else, are none
-  none_of : ((w : Word) → Tokens w → drop at s ≡ token_lines w → ⊥) → Lines (drop at s) 0
-  none_of f = record { is = λ h. absurd (omega arith); absent = λ e. f }
-
   -- what is left at i of lines that go on
-  goes_on : {n i : ℕ} → Counted n i → i < length s → (w : Word) → Tokens w
+  goes_on : {n i : ℕ} → Counted n i → (n ≡ 0) ⊎ (i < length s) → (w : Word) → Tokens w
       → drop at s ≡ token_lines w
       → (t : Token) × ReportToken t × (v : Word) × (drop i s ≡ token_text_of t ++ token_lines v)
       × (n < length w)
@@ -57,59 +50,45 @@ module _ (s : List ℕ) (at : ℕ) where
       go : Left x.word (drop i s) w
           → (t : Token) × ReportToken t × (v : Word) × (drop i s ≡ token_text_of t ++ token_lines v)
           × (n < length w)
-      go l = at_left l.left refl
+      go l = at_left l.left refl h
         where
-          at_left : (v : Word) → l.left ≡ v
+          whole : length w ≡ length x.word + length l.left
+          whole = ap length l.whole ∙ length-append x.word l.left
+
+          at_left : (v : Word) → l.left ≡ v → (n ≡ 0) ⊎ (i < length s)
               → (t : Token) × ReportToken t × (v : Word)
               × (drop i s ≡ token_text_of t ++ token_lines v)
               × (n < length w)
-          at_left [] q =
+          at_left [] q (inl z) = absurd (omega (arith, p.nonempty, x.count, whole, ap length q))
+          at_left [] q (inr z) =
               absurd (omega (arith, length-drop i s, ap length (l.is ∙ ap token_lines q)))
-          at_left (t ∷ v) q = (
+          at_left (t ∷ v) q z = (
             t,
             (rw q at l.good).0,
             v,
             l.is ∙ ap token_lines q,
-            omega (
-              arith,
-              x.count,
-              ap length l.whole
-                  ∙ length-append x.word l.left,
-              ap length q,
-            ),
+            omega (arith, x.count, whole, ap length q),
           )
 
-  pub many : {n i : ℕ} → Counted n i → i < length s → n ≡ 7 → Lines (drop at s) 0
-  many x h e = none_of (λ w p q. let g = goes_on x h w p q in omega (arith, p.few, g.4))
+  -- more than seven lines
+  pub many : {n i : ℕ} → Counted n i → 7 ≤ n → (n ≡ 0) ⊎ (i < length s) → Lines (drop at s) None
+  many x k h w p q = let g = goes_on x h w p q in omega (arith, p.few, g.4)
 
-  pub unread : {n i : ℕ} → Counted n i → i < length s → NoToken s i → Lines (drop at s) 0
-  unread x h t = none_of (λ w p q. let g = goes_on x h w p q in
-      t.absent g.0 (token_lines g.2) g.1 g.3)
+  -- anything else
+  pub unread : {n i : ℕ} → Counted n i → (n ≡ 0) ⊎ (i < length s) → NoToken s i
+      → Lines (drop at s) None
+  unread x h t w p q = let g = goes_on x h w p q in t.absent g.0 (token_lines g.2) g.1 g.3
 
-  pub all_read : {n i : ℕ} → Counted n i → length s ≤ i → Lines (drop at s) n
-  all_read {n} {i} x h = record {
-    is = λ k. (
-      x.word,
-      record {
-        nonempty = omega (arith, x.count);
-        few = omega (arith, x.count, x.few);
-        good = x.good;
-      },
-      x.count,
-      whole,
-    );
-    absent = λ e w p q. nothing e w p q;
-  }
-    where
-      whole : drop at s ≡ token_lines x.word
-      whole = x.is ∙ ap (λ (l : List ℕ). token_lines x.word ++ l) (drop_of_length-le s {i = i} h)
-          ∙ append-nil (token_lines x.word)
-
-      nothing : n ≡ 0 → (w : Word) → Tokens w → drop at s ≡ token_lines w → ⊥
-      nothing e [] p q = omega (arith, p.nonempty)
-      nothing e (t ∷ w) p q = omega (
-        arith,
-        token_some t (token_lines w),
-        ap length
-            (sym q ∙ whole ∙ no_lines x.word (x.count ∙ e)),
-      )
+  pub all_read : {n i : ℕ} → Counted n i → 1 ≤ n → i ≡ length s → Lines (drop at s) (Some n)
+  all_read {n} {i} x k h = (
+    x.word,
+    record {
+      nonempty = omega (arith, x.count);
+      few = omega (arith, x.count, x.few);
+      good = x.good;
+    },
+    x.count,
+    x.is ∙ ap (λ (l : List ℕ). token_lines x.word ++ l)
+        (drop_of_length-le s {i = i} (omega arith))
+        ∙ append-nil (token_lines x.word),
+  )

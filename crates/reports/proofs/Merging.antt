@@ -1,17 +1,58 @@
 -- Which of two texts is the merged report.
-use mathlib.Core.Path.{refl}
-use mathlib.Core.Logic.{inl, inr}
+use mathlib.Core.Path.{◌≡◌, refl}
+use mathlib.Core.Bool.{Bool, true, false, cond}
+use mathlib.Core.Logic.{◌⊎◌, inl, inr}
 use mathlib.Core.List.{List}
-use Prim.Native.Nat.{ℕ, ◌≤◌}
+use Prim.Native.Nat.{ℕ, ◌≤◌, ◌<◌}
+use native.Mathlib.Omega.{arith}
+use borrow.Author.Tests.{ltb-true, ltb-false, eqb-true, eqb-false}
+use lib.Dec.{ltb, eqb}
 use lib.ListN.{length}
+use Rattle.std.specs.Prelude.{Some}
+use Rattle.std.proofs.Common.{Less, Equal, Greater}
+use Rattle.std.specs.Ordering.{is_lt, is_some_and, partial_lt, partial_ordering_then}
 use Rattle.sets.proofs.Basics.{clash}
-use Rattle.text.specs.Output.{refused_text_of, head}
+use Rattle.call_shares.specs.Share.{ShareResult}
 use Rattle.call_shares.specs.Merge.{Leads, Ahead, first_refuses, second_refuses, second, first}
+use Rattle.reports.specs.contracts.ToldPartialOrd.TheImpl as Order
 use Rattle.reports.specs.declared.Told.{Told}
-use Rattle.reports.specs.declared.Taken.{Taken}
-use Rattle.reports.specs.Reports.{MergeText, one_unwritten, two_unwritten, merging}
-use Rattle.reports.specs.Rests.{Found, TellsOf, TakenOf}
+use Rattle.reports.specs.declared.Told.TheVariants as Told
+use Rattle.reports.specs.Reports.{MergeText, merging, ReportOf}
+use Rattle.reports.specs.Rests.{Found, TellsOf}
 use Rattle.reports.proofs.Sizes.{report_short}
+
+-- the order of what reports tell
+abbrev pub less : Told → Told → Bool
+less = partial_lt Order.partial_cmp-value.it
+
+-- the same by the tests of two pairs of numbers
+abbrev below : Bool → Bool → Bool → Bool → Bool
+below p q r u = is_some_and is_lt (partial_ordering_then (Some (cond p Less (cond q Equal Greater)))
+    (Some (cond r Less (cond u Equal Greater))))
+
+-- found sentences are ordered by their numbers of tokens, then by their own numbers
+module _ (m M n N : ℕ) where
+  less_found : less (Told.Found m M) (Told.Found n N) ≡ true → (m < n) ⊎ ((m ≡ n) × (M < N))
+  less_found = go (ltb m n) (eqb m n) (ltb M N) (eqb M N) refl refl refl
+    where
+      go : (p q r u : Bool) → ltb m n ≡ p → eqb m n ≡ q → ltb M N ≡ r → below p q r u ≡ true
+          → (m < n) ⊎ ((m ≡ n) × (M < N))
+      go true q r u a b c e = inl (ltb-true m n a)
+      go false true true u a b c e = inr (eqb-true m n b, ltb-true M N c)
+      go false true false true a b c e = absurd (clash cc)
+      go false true false false a b c e = absurd (clash cc)
+      go false false r u a b c e = absurd (clash cc)
+
+  less_false : less (Told.Found m M) (Told.Found n N) ≡ false → (m < n) ⊎ ((m ≡ n) × (M < N)) → ⊥
+  less_false = go (ltb m n) (eqb m n) (ltb M N) (eqb M N) refl refl refl
+    where
+      go : (p q r u : Bool) → ltb m n ≡ p → eqb m n ≡ q → ltb M N ≡ r → below p q r u ≡ false
+          → (m < n) ⊎ ((m ≡ n) × (M < N)) → ⊥
+      go true q r u a b c e h = clash cc
+      go false q r u a b c e (inl h) = omega (arith, ltb-false m n a)
+      go false true true u a b c e (inr h) = clash cc
+      go false true false u a b c e (inr h) = let k = h.1 in omega (arith, ltb-false M N c)
+      go false false r u a b c e (inr h) = eqb-false m n b h.0
 
 -- one of two reports leads by its tokens and its number
 ahead : {s t : List ℕ} {n N m M : ℕ} (x : Found s n N) (y : Found t m M)
@@ -22,53 +63,64 @@ ahead_of : {s t : List ℕ} {n N m M : ℕ} (x : Found s n N) (y : Found t m M) 
     → Ahead y.reply x.reply
 ahead_of x y l = rw (y.count, y.number, x.count, x.number) l
 
-module _ (s t : List ℕ) where
-  pub take_one : (a b : Told) → TellsOf s a → TellsOf t b → TakenOf a b Taken.One → MergeText s t s
-  take_one Told.Not b x y e = absurd (clash cc)
-  take_one Told.Refused Told.Not x y e = absurd (clash cc)
-  take_one Told.Refused Told.Refused x y e =
-      merging x.of y.of (first_refuses x.refuses refl) x.of.written
-  take_one Told.Refused (Told.Found m M) x y e =
-      merging x.of y.of (first_refuses x.refuses refl) x.of.written
-  take_one (Told.Found n N) Told.Not x y e = absurd (clash cc)
-  take_one (Told.Found n N) Told.Refused x y e = absurd (clash cc)
-  take_one (Told.Found n N) (Told.Found m M) x y (inl e) = absurd (let d = e.0 in clash cc)
-  take_one (Told.Found n N) (Told.Found m M) x y (inr e) = merging x.of y.of
-      (first x.taken y.taken (λ l. e.1 (ahead x y l)) refl) x.of.written
+-- a report of no tokens does not lead
+silent : {M n N : ℕ} → Leads 0 M n N → ⊥
+silent l = omega (arith, l.reports)
 
-  pub take_two : (a b : Told) → TellsOf s a → TellsOf t b → TakenOf a b Taken.Two → MergeText s t t
-  take_two Told.Not b x y e = absurd (clash cc)
-  take_two Told.Refused Told.Not x y e = absurd (clash cc)
+sooner : {m M n N : ℕ} → 1 ≤ n → Leads m M n N → (m < n) ⊎ ((m ≡ n) × (M < N))
+sooner {m = m} {M = M} {n = n} {N = N} h l = go l.sooner
+  where
+    go : (n ≡ 0) ⊎ ((m < n) ⊎ ((m ≡ n) × (M < N))) → (m < n) ⊎ ((m ≡ n) × (M < N))
+    go (inl e) = absurd (omega arith)
+    go (inr e) = e
+
+module _ (s t : List ℕ) where
+  -- the other text is a report too
+  told_of : (b : Told) → TellsOf t (Some b) → (r : ShareResult) × ReportOf t r
+  told_of Told.Refused y = (y.reply, y.of)
+  told_of (Told.Found m M) y = (y.1.reply, y.1.of)
+  told_of Told.Clear y = (y.reply, y.of)
+
+  pub take_one : (a b : Told) → TellsOf s (Some a) → TellsOf t (Some b) → less b a ≡ false
+      → MergeText s t s
+  take_one Told.Refused b x y e =
+      merging x.of (told_of b y).1 (first_refuses x.refuses refl) x.of.written
+  take_one (Told.Found n N) Told.Refused x y e = absurd (clash cc)
+  take_one (Told.Found n N) (Told.Found m M) x y e =
+      merging x.1.of y.1.of
+      (first x.1.taken y.1.taken (λ l. less_false m M n N e (sooner x.0 (ahead x.1 y.1 l))) refl)
+      x.1.of.written
+  take_one (Told.Found n N) Told.Clear x y e =
+      merging x.1.of y.of (first x.1.taken y.taken (λ l. silent (ahead x.1 y l)) refl)
+      x.1.of.written
+  take_one Told.Clear Told.Refused x y e = absurd (clash cc)
+  take_one Told.Clear (Told.Found m M) x y e = absurd (clash cc)
+  take_one Told.Clear Told.Clear x y e =
+      merging x.of y.of (first x.taken y.taken (λ l. silent (ahead x y l)) refl) x.of.written
+
+  pub take_two : (a b : Told) → TellsOf s (Some a) → TellsOf t (Some b) → less b a ≡ true
+      → MergeText s t t
   take_two Told.Refused Told.Refused x y e = absurd (clash cc)
   take_two Told.Refused (Told.Found m M) x y e = absurd (clash cc)
-  take_two (Told.Found n N) Told.Not x y e = absurd (clash cc)
+  take_two Told.Refused Told.Clear x y e = absurd (clash cc)
   take_two (Told.Found n N) Told.Refused x y e =
+      merging x.1.of y.of (second_refuses x.1.taken y.refuses refl) y.of.written
+  take_two (Told.Found n N) (Told.Found m M) x y e =
+      merging x.1.of y.1.of
+      (second x.1.taken y.1.taken
+      (ahead_of x.1 y.1 (record { reports = y.0; sooner = inr (less_found m M n N e) })) refl)
+      y.1.of.written
+  take_two (Told.Found n N) Told.Clear x y e = absurd (clash cc)
+  take_two Told.Clear Told.Refused x y e =
       merging x.of y.of (second_refuses x.taken y.refuses refl) y.of.written
-  take_two (Told.Found n N) (Told.Found m M) x y (inl e) = merging x.of y.of
-      (second x.taken y.taken (ahead_of x y e.1) refl) y.of.written
-  take_two (Told.Found n N) (Told.Found m M) x y (inr e) = absurd (let d = e.0 in clash cc)
+  take_two Told.Clear (Told.Found m M) x y e =
+      merging x.of y.1.of
+      (second x.taken y.1.taken (ahead_of x y.1 (record { reports = y.0; sooner = inl refl })) refl)
+      y.1.of.written
+  take_two Told.Clear Told.Clear x y e = absurd (clash cc)
 
-  pub take_neither : (a b : Told) → TellsOf s a → TellsOf t b → TakenOf a b Taken.Neither
-      → MergeText s t (head (refused_text_of 32) 0)
-  take_neither Told.Not b x y e = one_unwritten x refl
-  take_neither Told.Refused Told.Not x y e = two_unwritten y refl
-  take_neither Told.Refused Told.Refused x y e = absurd (clash cc)
-  take_neither Told.Refused (Told.Found m M) x y e = absurd (clash cc)
-  take_neither (Told.Found n N) Told.Not x y e = two_unwritten y refl
-  take_neither (Told.Found n N) Told.Refused x y e = absurd (clash cc)
-  take_neither (Told.Found n N) (Told.Found m M) x y (inl e) = absurd (let d = e.0 in clash cc)
-  take_neither (Told.Found n N) (Told.Found m M) x y (inr e) = absurd (let d = e.0 in clash cc)
-
-  pub one_short : (a b : Told) → TellsOf s a → TakenOf a b Taken.One → length s ≤ 400
-  one_short Told.Not b x e = absurd (clash cc)
-  one_short Told.Refused b x e = report_short s x.of
-  one_short (Told.Found n N) b x e = report_short s x.of
-
-  pub two_short : (a b : Told) → TellsOf t b → TakenOf a b Taken.Two → length t ≤ 400
-  two_short Told.Not b y e = absurd (clash cc)
-  two_short Told.Refused Told.Not y e = absurd (clash cc)
-  two_short Told.Refused Told.Refused y e = report_short t y.of
-  two_short Told.Refused (Told.Found m M) y e = report_short t y.of
-  two_short (Told.Found n N) Told.Not y e = absurd (clash cc)
-  two_short (Told.Found n N) Told.Refused y e = report_short t y.of
-  two_short (Told.Found n N) (Told.Found m M) y e = report_short t y.of
+-- a text that tells something is short
+pub told_short : (s : List ℕ) (a : Told) → TellsOf s (Some a) → length s ≤ 400
+told_short s Told.Refused x = report_short s x.of
+told_short s (Told.Found n N) x = report_short s x.1.of
+told_short s Told.Clear x = report_short s x.of

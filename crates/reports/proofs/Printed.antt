@@ -14,7 +14,8 @@ use Rattle.grammar.proofs.SweepLaws.{sentence_length}
 use Rattle.arrangement_numbers.specs.Shares.{first_of_share, total}
 use Rattle.arrangement_numbers.proofs.ShareLaws.{begins_mono, begins_last, remainder_small}
 use Rattle.sweep_answers.specs.Sweep.{sweep_limit}
-use Rattle.call_shares.specs.declared.ShareReply.{ShareReply}
+use Rattle.call_shares.specs.Share.{ShareResult}
+use Rattle.sheets.specs.Results.{told_line}
 use Rattle.call_shares.specs.Share.{ShareTaken, ShareOn, bound, many, racks, beyond, short, clear}
 use Rattle.call_shares.specs.Share.{two, ShareOf, refusing, reading}
 use Rattle.call_shares.proofs.ShareSettled.{small_terminals}
@@ -53,7 +54,7 @@ module _ {g : Rules} {n p i : ℕ} {words : List ℕ} (t : ShareTaken g n p i wo
   )
 
 on_reports : {g : Rules} → ((x : ℕ) → Terminal g x → x < 64)
-    → {n p i : ℕ} {words words' : List ℕ} {r : ShareReply} → ShareOn g n p i words words' r
+    → {n p i : ℕ} {words words' : List ℕ} {r : ShareResult} → ShareOn g n p i words words' r
     → Report r
 on_reports small (bound l m e h) = a_refusal {l = 0} (omega arith) e
 on_reports small (many k u o q e h) = a_refusal {l = 0} (omega arith) e
@@ -69,8 +70,8 @@ on_reports small (two {cs = cs} t c e h) =
     (cells_good small t.size.high 1 0 (omega arith) cs (omega (arith, a.size, t.size.high))
     a.cells) e
 
-pub share_reports : {rules : List ℕ} {n p i : ℕ} {words words' : List ℕ} {r : ShareReply}
-    → ShareOf rules n p i words words' r → r.line ≤ sweep_limit → Report r
+pub share_reports : {rules : List ℕ} {n p i : ℕ} {words words' : List ℕ} {r : ShareResult}
+    → ShareOf rules n p i words words' r → told_line r ≤ sweep_limit → Report r
 share_reports (refusing {l = k} x e h) l =
-    a_refusal {l = k} (omega (arith, ap (λ (z : ShareReply). z.line) e)) e
+    a_refusal {l = k} (omega (arith, ap told_line e)) e
 share_reports {rules} (reading {g = g} x s) l = on_reports (small_terminals rules g x) s

@@ -15,6 +15,7 @@ use Rattle.sets.proofs.Says.{says_iff}
 use Rattle.scanning.specs.Scanned.{Numbered, Unnumbered, Starts}
 use Rattle.reports.specs.Rests.{PairTo, NoPair, pair_text, ClearRest, TwoRest, RefusedRest}
 use Rattle.reports.specs.Rests.{OfFault, Lines}
+use Rattle.std.specs.Prelude.{Some, None}
 use Rattle.scanning.proofs.Numbers.{decimal_same}
 use Rattle.reports.proofs.Fields.{behind}
 use Rattle.reports.proofs.Faults.{fault_most}
@@ -127,15 +128,12 @@ module _ (s : List ℕ) (at : ℕ) where
         rest_inside =
             omega (arith, length-drop b s, ap length z.is ∙ length-append names z.rest)
 
-        pub two_lines : {k : ℕ} → Lines (drop (b + 14) s) k → k ≡ 0 → (n N : ℕ)
-            → TwoRest (drop at s) n N → ⊥
-        two_lines l e n N r =
-            l.absent e r.word r.tokens
-            (sym (drop-drop 14 b s) ∙ ap (drop 14) (on_number r).1)
+        pub two_lines : Lines (drop (b + 14) s) None → (n N : ℕ) → TwoRest (drop at s) n N → ⊥
+        two_lines l n N r =
+            l r.word r.tokens (sym (drop-drop 14 b s) ∙ ap (drop 14) (on_number r).1)
 
-        pub two_there : {k : ℕ} → Lines (drop (b + 14) s) k → (k ≡ 0 → ⊥) → TwoRest (drop at s) k M
-        two_there {k} l f =
-            let w = l.is (omega arith) in
+        pub two_there : {k : ℕ} → Lines (drop (b + 14) s) (Some k) → TwoRest (drop at s) k M
+        two_there {k} w =
             record {
               quotient = x.quotient;
               remainder = x.remainder;

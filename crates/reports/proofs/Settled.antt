@@ -1,5 +1,6 @@
 -- A text is the text of one report at most, and the promise of `merge_text` settles the whole
 -- output.
+use Rattle.std.specs.Prelude.{Some, None}
 use mathlib.Core.Path.{◌≡◌, refl, sym, ap, ◌∙◌}
 use mathlib.Core.List.{List, [], ◌∷◌, ◌++◌}
 use Prim.Native.Nat.{ℕ}
@@ -11,9 +12,9 @@ use Rattle.sheets.specs.declared.Fault.{Fault}
 use Rattle.sheets.specs.Refusals.{number_of}
 use Rattle.sheets.specs.TokenSheets.{token_names}
 use Rattle.sheets.proofs.Numbers.{same_fault}
-use Rattle.sheets.specs.declared.Answer.{Answer}
-use Rattle.call_shares.specs.declared.ShareReply.{ShareReply}
-use Rattle.call_shares.specs.Share.{share_reply_of, share_refusal}
+use Rattle.call_shares.specs.Share.{ShareResult}
+use Rattle.call_shares.specs.Share.{share_reply_of}
+use Rattle.sheets.specs.Results.{refusal}
 use Rattle.call_shares.proofs.Merging.{merged_settled}
 use Rattle.share_text.specs.Shares.{report_text}
 use Rattle.scanning.proofs.Numbers.{decimal_same}
@@ -47,25 +48,25 @@ pair_same q m r n x y e =
 differ : {x y : List ℕ} {a b : ℕ} → x ≡ y → get_or x 12 0 ≡ a → get_or y 12 0 ≡ b → (a ≡ b → ⊥) → ⊥
 differ e p q f = f (sym p ∙ ap (λ (l : List ℕ). get_or l 12 0) e ∙ q)
 
-refused_at : (f : Fault) (l : ℕ) → get_or (report_text (share_refusal f l)) 12 0 ≡ 114
+refused_at : (f : Fault) (l : ℕ) → get_or (report_text (refusal f l)) 12 0 ≡ 114
 refused_at f l = ap (λ (t : List ℕ). get_or t 12 0) (refusal_begins f l)
 
-clear_at : (q m : ℕ) → get_or (report_text (share_reply_of Answer.Clear 0 q m [])) 12 0 ≡ 99
+clear_at : (q m : ℕ) → get_or (report_text (share_reply_of 0 q m None)) 12 0 ≡ 99
 clear_at q m = ap (λ (t : List ℕ). get_or t 12 0) (clear_begins q m)
 
 two_at : (N q m : ℕ) (w : Word)
-    → get_or (report_text (share_reply_of Answer.Two N q m w)) 12 0 ≡ 116
+    → get_or (report_text (share_reply_of N q m (Some w))) 12 0 ≡ 116
 two_at N q m w = ap (λ (t : List ℕ). get_or t 12 0) (two_begins N q m w)
 
-texts_same : {a b : ShareReply} → Report a → Report b → report_text a ≡ report_text b → a ≡ b
+texts_same : {a b : ShareResult} → Report a → Report b → report_text a ≡ report_text b → a ≡ b
 texts_same (a_refusal {f = f} {l = l} h e) (a_refusal {f = g} {l = k} j d) x =
     let p = ap (drop 20) (sym (refusal_begins f l) ∙ ap report_text (sym e) ∙ x ∙ ap report_text d
     ∙ refusal_begins g k) in
     let q = decimal_same (number_of f) (number_of g) 32 32 (decimal l ++ (10 ∷ []))
     (decimal k ++ (10 ∷ [])) (omega arith) (omega arith) p in
     let r = decimal_same l k 10 10 [] [] (omega arith) (omega arith) q.1 in
-    e ∙ ap (λ (z : Fault). share_refusal z l) (same_fault f g (number_of g) q.0 refl)
-    ∙ ap (share_refusal g) r.0 ∙ sym d
+    e ∙ ap (λ (z : Fault). refusal z l) (same_fault f g (number_of g) q.0 refl)
+    ∙ ap (refusal g) r.0 ∙ sym d
 texts_same (a_refusal {f = f} {l = l} h e) (a_clear {q = q} {m = m} j k d) x =
     absurd (differ (ap report_text (sym e) ∙ x ∙ ap report_text d) (refused_at f l) (clear_at q m)
     (λ z. omega arith))
@@ -79,8 +80,8 @@ texts_same (a_clear {q = q} {m = m} h k e) (a_clear {q = r} {m = n} i j d) x =
     let p = ap (drop 46) (sym (clear_begins q m) ∙ ap report_text (sym e) ∙ x ∙ ap report_text d
     ∙ clear_begins r n) in
     let s = pair_same q m r n (45 ∷ 10 ∷ []) (45 ∷ 10 ∷ []) p in
-    e ∙ ap (λ (z : ℕ). share_reply_of Answer.Clear 0 z m []) s.0
-    ∙ ap (λ (z : ℕ). share_reply_of Answer.Clear 0 r z []) s.1 ∙ sym d
+    e ∙ ap (λ (z : ℕ). share_reply_of 0 z m None) s.0
+    ∙ ap (λ (z : ℕ). share_reply_of 0 r z None) s.1 ∙ sym d
 texts_same (a_clear {q = r} {m = n} i o e) (a_two {N = N} {q = q} {m = m} w a b c g k j d) x =
     absurd (differ (ap report_text (sym e) ∙ x ∙ ap report_text d) (clear_at r n) (two_at N q m w)
     (λ z. omega arith))
@@ -100,13 +101,13 @@ texts_same (a_two {N = N} {q = q} {m = m} w a b c g k j d)
     (token_names ++ (10 ∷ token_lines v)) (omega arith) (omega arith) s.2 in
     let u = words_same w v j j' (ap (drop 14) t.1) in
     d
-    ∙ ap (λ (z : ℕ). share_reply_of Answer.Two z q m w) t.0
-    ∙ ap (λ (z : ℕ). share_reply_of Answer.Two M z m w) s.0
-    ∙ ap (λ (z : ℕ). share_reply_of Answer.Two M r z w) s.1
-    ∙ ap (λ (z : Word). share_reply_of Answer.Two M r n z) u
+    ∙ ap (λ (z : ℕ). share_reply_of z q m (Some w)) t.0
+    ∙ ap (λ (z : ℕ). share_reply_of M z m (Some w)) s.0
+    ∙ ap (λ (z : ℕ). share_reply_of M r z (Some w)) s.1
+    ∙ ap (λ (z : Word). share_reply_of M r n (Some z)) u
     ∙ sym e
 
-pub report_one : {s : List ℕ} {a b : ShareReply} → ReportOf s a → ReportOf s b → a ≡ b
+pub report_one : {s : List ℕ} {a b : ShareResult} → ReportOf s a → ReportOf s b → a ≡ b
 report_one x y = texts_same x.report y.report (sym x.written ∙ y.written)
 
 pub merge_text_settled : {s t a b : List ℕ} → MergeText s t a → MergeText s t b → a ≡ b

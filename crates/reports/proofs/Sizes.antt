@@ -10,7 +10,7 @@ use Rattle.printing.proofs.Decimals.{decimal_length}
 use Rattle.sheets.specs.Refusals.{number_of}
 use Rattle.sheets.specs.TokenSheets.{token_names}
 use Rattle.sweep_answers.specs.Sweep.{sweep_limit}
-use Rattle.call_shares.specs.declared.ShareReply.{ShareReply}
+use Rattle.call_shares.specs.Share.{ShareResult}
 use Rattle.reports.specs.Reports.{ReportToken, ReportOf}
 use Rattle.reports.specs.Rests.{pair_text}
 use Rattle.reports.proofs.Faults.{fault_most}
@@ -38,7 +38,7 @@ pair_short : (q m : ℕ) (t : List ℕ) → q ≤ sweep_limit → m ≤ sweep_li
     → length (pair_text q m t) ≤ 22 + length t
 pair_short q m t h k = omega (arith, ended q 32 (decimal m ++ (32 ∷ t)) h, ended m 32 t k)
 
-pub report_short : (s : List ℕ) {r : ShareReply} → ReportOf s r → length s ≤ 400
+pub report_short : (s : List ℕ) {r : ShareResult} → ReportOf s r → length s ≤ 400
 report_short s x = go (begins s x)
   where
     go : Begins s → length s ≤ 400

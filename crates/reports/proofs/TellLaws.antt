@@ -1,16 +1,20 @@
 -- What a text tells, from its fixed beginning and what follows it.
 use mathlib.Core.Path.{◌≡◌, refl, sym, ap, ◌∙◌}
+use mathlib.Core.Bool.{Bool, true, false}
 use mathlib.Core.List.{List, [], ◌∷◌, ◌++◌}
-use Prim.Native.Nat.{ℕ, ◌≤◌}
+use Prim.Native.Nat.{ℕ}
 use native.Mathlib.Omega.{arith}
-use lib.ListN.{length, drop, get_or, length-append}
+use lib.ListN.{drop, get_or}
 use Rattle.printing.specs.Printing.{decimal, token_lines}
 use Rattle.sheets.specs.Refusals.{number_of}
 use Rattle.sheets.specs.TokenSheets.{token_names}
-use Rattle.sheets.specs.declared.Answer.TheVariants as Answer
-use Rattle.call_shares.specs.declared.ShareReply.{ShareReply}
-use Rattle.call_shares.specs.Share.{share_reply_of, share_refusal}
+use Rattle.call_shares.specs.Share.{ShareResult}
+use Rattle.call_shares.specs.Share.{share_reply_of}
+use Rattle.sheets.specs.Results.{refusal}
 use Rattle.share_text.specs.Shares.{report_text}
+use Rattle.std.specs.Prelude.{Option, Some, None}
+use Rattle.std.specs.Bool.{then_some}
+use Rattle.sets.specs.Says.{Says}
 use Rattle.scanning.specs.Scanned.{Starts}
 use Rattle.reports.specs.declared.Told.{Told}
 use Rattle.reports.specs.Reports.{Report, a_refusal, a_clear, a_two, ReportOf}
@@ -26,7 +30,7 @@ module _ (s : List ℕ) where
     with_clear : Starts s clear_start → ClearRest (drop 46 s) → Begins
     with_two : {n N : ℕ} → Starts s two_start → TwoRest (drop 44 s) n N → Begins
 
-  pub begins : {r : ShareReply} → ReportOf s r → Begins
+  pub begins : {r : ShareResult} → ReportOf s r → Begins
   begins {r} x = go x.report
     where
       go : Report r → Begins
@@ -76,13 +80,10 @@ module _ (s : List ℕ) where
 
   -- 1. clear
 
-  pub clear_long : Starts s clear_start → 46 ≤ length s
-  clear_long x = omega (arith, ap length x.is ∙ length-append clear_start x.rest)
-
-  pub clear_tells : Starts s clear_start → ClearRest (drop 46 s) → Found s 0 0
+  clear_tells : Starts s clear_start → ClearRest (drop 46 s) → Found s 0 0
   clear_tells x y =
       record {
-        reply = share_reply_of Answer.Clear 0 y.quotient y.remainder [];
+        reply = share_reply_of 0 y.quotient y.remainder None;
         of =
             record {
               report = a_clear y.low y.small refl;
@@ -95,7 +96,7 @@ module _ (s : List ℕ) where
         number = refl;
       }
 
-  pub clear_not : Starts s clear_start → (ClearRest (drop 46 s) → ⊥) → TellsOf s Told.Not
+  clear_not : Starts s clear_start → (ClearRest (drop 46 s) → ⊥) → TellsOf s None
   clear_not x f r y = go (begins y)
     where
       go : Begins → ⊥
@@ -103,44 +104,46 @@ module _ (s : List ℕ) where
       go (with_clear z w) = f w
       go (with_two z w) = apart (clear_at x) (two_at z) (λ e. omega arith)
 
+  pub clear_told : (b : Bool) → Starts s clear_start → Says b (ClearRest (drop 46 s))
+      → TellsOf s (then_some b Told.Clear)
+  clear_told true x y = clear_tells x (y.is refl)
+  clear_told false x y = clear_not x (y.isnt refl)
+
   -- 2. two
 
-  pub two_long : Starts s two_start → 44 ≤ length s
-  two_long x = omega (arith, ap length x.is ∙ length-append two_start x.rest)
-
-  pub two_tells : Starts s two_start → (o : Told) → TwoTold (drop 44 s) o → TellsOf s o
-  two_tells x Told.Not f = λ r y. go (begins y)
+  pub two_tells : Starts s two_start → (o : Option Told) → TwoTold (drop 44 s) o → TellsOf s o
+  two_tells x None f = λ r y. go (begins y)
     where
       go : Begins → ⊥
       go (with_refusal z w) = apart (two_at x) (refused_at z) (λ e. omega arith)
       go (with_clear z w) = apart (two_at x) (clear_at z) (λ e. omega arith)
       go (with_two {n = n} {N = N} z w) = f n N w
-  two_tells x Told.Refused f = absurd f
-  two_tells x (Told.Found n N) y =
-      record {
-        reply = share_reply_of Answer.Two N y.quotient y.remainder y.word;
-        of =
-            record {
-              report = a_two y.word y.least y.low y.small y.tokens.nonempty
-                  y.tokens.few y.tokens.good refl;
-              written =
-                  x.is ∙ ap (λ (l : List ℕ). two_start ++ l) (sym (ap (drop 44) x.is) ∙ y.is)
-                  ∙ sym (two_begins N y.quotient y.remainder y.word);
-            };
-        taken = λ z. z;
-        count = y.count;
-        number = refl;
-      }
+  two_tells x (Some Told.Refused) f = absurd f
+  two_tells x (Some Told.Clear) f = absurd f
+  two_tells x (Some (Told.Found n N)) y = (
+    omega (arith, y.count, y.tokens.nonempty),
+    record {
+      reply = share_reply_of N y.quotient y.remainder (Some y.word);
+      of =
+          record {
+            report = a_two y.word y.least y.low y.small y.tokens.nonempty
+                y.tokens.few y.tokens.good refl;
+            written =
+                x.is ∙ ap (λ (l : List ℕ). two_start ++ l) (sym (ap (drop 44) x.is) ∙ y.is)
+                ∙ sym (two_begins N y.quotient y.remainder y.word);
+          };
+      taken = λ z. z;
+      count = y.count;
+      number = refl;
+    },
+  )
 
   -- 3. a refusal
 
-  pub refused_long : Starts s refused_start → 20 ≤ length s
-  refused_long x = omega (arith, ap length x.is ∙ length-append refused_start x.rest)
-
-  pub refused_tells : Starts s refused_start → RefusedRest (drop 20 s) → Refused s
+  refused_tells : Starts s refused_start → RefusedRest (drop 20 s) → Refused s
   refused_tells x y =
       record {
-        reply = share_refusal y.fault y.line;
+        reply = refusal y.fault y.line;
         of =
             record {
               report = a_refusal y.low refl;
@@ -152,7 +155,7 @@ module _ (s : List ℕ) where
         refuses = tt;
       }
 
-  pub refused_not : Starts s refused_start → (RefusedRest (drop 20 s) → ⊥) → TellsOf s Told.Not
+  refused_not : Starts s refused_start → (RefusedRest (drop 20 s) → ⊥) → TellsOf s None
   refused_not x f r y = go (begins y)
     where
       go : Begins → ⊥
@@ -160,11 +163,16 @@ module _ (s : List ℕ) where
       go (with_clear z w) = apart (refused_at x) (clear_at z) (λ e. omega arith)
       go (with_two z w) = apart (refused_at x) (two_at z) (λ e. omega arith)
 
+  pub refused_told : (b : Bool) → Starts s refused_start → Says b (RefusedRest (drop 20 s))
+      → TellsOf s (then_some b Told.Refused)
+  refused_told true x y = refused_tells x (y.is refl)
+  refused_told false x y = refused_not x (y.isnt refl)
+
   -- 4. none of these
 
   pub none_tells : (Starts s clear_start → ⊥) → (Starts s two_start → ⊥)
       → (Starts s refused_start → ⊥)
-      → TellsOf s Told.Not
+      → TellsOf s None
   none_tells a b c r y = go (begins y)
     where
       go : Begins → ⊥

@@ -1,5 +1,5 @@
 -- For the contracts of inner functions only. What the readers of reports tell.
-use Rattle.std.specs.Prelude.{◌≡◌, ◌⊎◌, List, [], ◌∷◌, ◌++◌, ℕ, ◌≤◌, length, drop}
+use Rattle.std.specs.Prelude.{◌≡◌, List, [], ◌∷◌, ◌++◌, ℕ, ◌≤◌, length, drop, Option, Some, None}
 use Rattle.grammar.specs.declared.Token.{Token}
 use Rattle.grammar.specs.Layout.{Word, Every}
 use Rattle.printing.specs.Printing.{decimal, token_text_of, token_lines}
@@ -7,12 +7,9 @@ use Rattle.sheets.specs.declared.Fault.{Fault}
 use Rattle.sheets.specs.Refusals.{number_of}
 use Rattle.sheets.specs.TokenSheets.{token_names}
 use Rattle.sweep_answers.specs.Sweep.{sweep_limit}
-use Rattle.text.specs.declared.Place.{Place}
-use Rattle.text.specs.declared.Place.TheVariants.{At, Nowhere}
-use Rattle.call_shares.specs.declared.ShareReply.{ShareReply}
-use Rattle.call_shares.specs.Merge.{Refuses, Leads}
+use Rattle.call_shares.specs.Share.{ShareResult, share_sentence, share_number}
+use Rattle.call_shares.specs.Merge.{Refuses}
 use Rattle.reports.specs.declared.Told.{Told}
-use Rattle.reports.specs.declared.Taken.{Taken}
 use Rattle.reports.specs.Reports.{ReportToken, ReportOf}
 
 -- a token line stands at a place, and the text goes on at `next`
@@ -25,9 +22,9 @@ pub record TokenTo (s : List ℕ) (at next : ℕ) : Type 0 where
 pub record NoToken (s : List ℕ) (at : ℕ) : Type 0 where
   pub absent : (t : Token) (rest : List ℕ) → ReportToken t → drop at s ≡ token_text_of t ++ rest → ⊥
 
-abbrev pub TokenAt : List ℕ → ℕ → Place → Type 0
-TokenAt s at (At next) = TokenTo s at next
-TokenAt s at Nowhere = NoToken s at
+abbrev pub TokenAt : List ℕ → ℕ → Option ℕ → Type 0
+TokenAt s at (Some next) = TokenTo s at next
+TokenAt s at None = NoToken s at
 
 -- the tokens of a report
 pub record Tokens (w : Word) : Type 0 where
@@ -35,10 +32,10 @@ pub record Tokens (w : Word) : Type 0 where
   pub few : length w ≤ 7
   pub good : Every ReportToken w
 
--- n token lines, and nothing else; 0 where that is not so
-pub record Lines (text : List ℕ) (n : ℕ) : Type 0 where
-  pub is : 1 ≤ n → (w : Word) × Tokens w × (length w ≡ n) × (text ≡ token_lines w)
-  pub absent : n ≡ 0 → (w : Word) → Tokens w → text ≡ token_lines w → ⊥
+-- n token lines, and nothing else
+abbrev pub Lines : List ℕ → Option ℕ → Type 0
+Lines text (Some n) = (w : Word) × Tokens w × (length w ≡ n) × (text ≡ token_lines w)
+Lines text None = (w : Word) → Tokens w → text ≡ token_lines w → ⊥
 
 -- two numbers, each with a blank behind it
 abbrev pub pair_text : ℕ → ℕ → List ℕ → List ℕ
@@ -56,9 +53,9 @@ pub record NoPair (s : List ℕ) (at : ℕ) : Type 0 where
   pub absent : (q m : ℕ) (rest : List ℕ) → q ≤ sweep_limit → m ≤ sweep_limit
       → drop at s ≡ pair_text q m rest → ⊥
 
-abbrev pub PairAt : List ℕ → ℕ → Place → Type 0
-PairAt s at (At next) = PairTo s at next
-PairAt s at Nowhere = NoPair s at
+abbrev pub PairAt : List ℕ → ℕ → Option ℕ → Type 0
+PairAt s at (Some next) = PairTo s at next
+PairAt s at None = NoPair s at
 
 -- what follows the line of names in a clear report
 pub record ClearRest (text : List ℕ) : Type 0 where
@@ -94,38 +91,28 @@ pub record OfFault (n : ℕ) : Type 0 where
   pub is : number_of fault ≡ n
 
 -- what a reader of the rest of a report of two trees tells
-abbrev pub TwoTold : List ℕ → Told → Type 0
-TwoTold text Told.Not = (n N : ℕ) → TwoRest text n N → ⊥
-TwoTold text Told.Refused = ⊥
-TwoTold text (Told.Found n N) = TwoRest text n N
+abbrev pub TwoTold : List ℕ → Option Told → Type 0
+TwoTold text None = (n N : ℕ) → TwoRest text n N → ⊥
+TwoTold text (Some Told.Refused) = ⊥
+TwoTold text (Some (Told.Found n N)) = TwoRest text n N
+TwoTold text (Some Told.Clear) = ⊥
 
 -- a report that is no refusal, of n tokens with the number N; a clear one has neither
 pub record Found (text : List ℕ) (n N : ℕ) : Type 0 where
-  pub reply : ShareReply
+  pub reply : ShareResult
   pub of : ReportOf text reply
-  pub taken : Refuses reply.answer → ⊥
-  pub count : reply.sentence.count ≡ n
-  pub number : reply.number ≡ N
+  pub taken : Refuses reply → ⊥
+  pub count : (share_sentence reply).count ≡ n
+  pub number : share_number reply ≡ N
 
 pub record Refused (text : List ℕ) : Type 0 where
-  pub reply : ShareReply
+  pub reply : ShareResult
   pub of : ReportOf text reply
-  pub refuses : Refuses reply.answer
+  pub refuses : Refuses reply
 
 -- what a text tells
-abbrev pub TellsOf : List ℕ → Told → Type 0
-TellsOf text Told.Not = (r : ShareReply) → ReportOf text r → ⊥
-TellsOf text Told.Refused = Refused text
-TellsOf text (Told.Found n N) = Found text n N
-
--- which of two texts is taken, by what they tell: neither where one is no report, else the first
--- refusal, else the one that leads
-abbrev pub TakenOf : Told → Told → Taken → Type 0
-TakenOf Told.Not b r = r ≡ Taken.Neither
-TakenOf Told.Refused Told.Not r = r ≡ Taken.Neither
-TakenOf Told.Refused Told.Refused r = r ≡ Taken.One
-TakenOf Told.Refused (Told.Found m M) r = r ≡ Taken.One
-TakenOf (Told.Found n N) Told.Not r = r ≡ Taken.Neither
-TakenOf (Told.Found n N) Told.Refused r = r ≡ Taken.Two
-TakenOf (Told.Found n N) (Told.Found m M) r =
-    ((r ≡ Taken.Two) × Leads m M n N) ⊎ ((r ≡ Taken.One) × (Leads m M n N → ⊥))
+abbrev pub TellsOf : List ℕ → Option Told → Type 0
+TellsOf text None = (r : ShareResult) → ReportOf text r → ⊥
+TellsOf text (Some Told.Refused) = Refused text
+TellsOf text (Some (Told.Found n N)) = (1 ≤ n) × Found text n N
+TellsOf text (Some Told.Clear) = Found text 0 0

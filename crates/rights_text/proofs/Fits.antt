@@ -6,8 +6,10 @@ use native.Mathlib.Omega.{arith}
 use lib.ListN.{length}
 use Rattle.grammar.specs.Trees.{Rules}
 use Rattle.tree_view.specs.Shown.{View}
-use Rattle.answering.specs.declared.TreesReply.{TreesReply}
-use Rattle.list_answers.specs.declared.ListReply.{ListReply}
+use Rattle.std.specs.Prelude.{Result}
+use Rattle.sheets.specs.declared.Refusal.{Refusal}
+use Rattle.answering.specs.declared.TreeRows.{TreeRows}
+use Rattle.list_answers.specs.Lists.{entry_count}
 use Rattle.list_answers.proofs.ListSettled.{count_of, list_count}
 use Rattle.answering.proofs.Fits.{Fits, counted, on_fits}
 use Rattle.call_rights.specs.Show.{ShowOf}
@@ -16,7 +18,7 @@ use Rattle.call_rights.specs.Change.{ChangeDone, unfit, given, ChangeOn, barred,
 use Rattle.call_rights.specs.Change as Change
 
 pub show_fit : {rules tokens rights : List ℕ} {user : ℕ} {words words' one one' two two' : List ℕ}
-    {r : TreesReply}
+    {r : Result TreeRows Refusal}
     → ShowOf rules tokens rights user words words' one one' two two' r → Fits one two r
 show_fit (Show.refusing e x h i j) =
     counted x (record { first = omega arith; second = omega arith })
@@ -24,18 +26,20 @@ show_fit (Show.barring e f x h i j) =
     counted x (record { first = omega arith; second = omega arith })
 show_fit (Show.reading e f s) = on_fits s
 
-done_count : {rules : List ℕ} {p : ℕ} {lay bytes bytes' : List ℕ} {r : ListReply}
-    → ChangeDone rules p lay bytes bytes' r → r.count ≤ length bytes
+done_count : {rules : List ℕ} {p : ℕ} {lay bytes bytes' : List ℕ} {r : Result ℕ Refusal}
+    → ChangeDone rules p lay bytes bytes' r → entry_count r ≤ length bytes
 done_count (unfit e x h) = count_of x (omega arith)
 done_count (given e l) = list_count l
 
 on_count : {may : View} {rules : List ℕ} {g : Rules} {p : ℕ} {lay bytes bytes' : List ℕ}
-    {r : ListReply} → ChangeOn may rules g p lay bytes bytes' r → r.count ≤ length bytes
+    {r : Result ℕ Refusal} → ChangeOn may rules g p lay bytes bytes' r
+    → entry_count r ≤ length bytes
 on_count (barred m n x h) = count_of x (omega arith)
 on_count (allowed m d) = done_count d
 
-pub change_count : {rules rights : List ℕ} {user p : ℕ} {lay bytes bytes' : List ℕ} {r : ListReply}
-    → ChangeOf rules rights user p lay bytes bytes' r → r.count ≤ length bytes
+pub change_count : {rules rights : List ℕ} {user p : ℕ} {lay bytes bytes' : List ℕ}
+    {r : Result ℕ Refusal}
+    → ChangeOf rules rights user p lay bytes bytes' r → entry_count r ≤ length bytes
 change_count (Change.refusing e x h) = count_of x (omega arith)
 change_count (Change.barring e f x h) = count_of x (omega arith)
 change_count (Change.reading e f o) = on_count o

@@ -6,9 +6,9 @@ ghost use Rattle.text.specs.Printed.{Printed};
 ghost use Rattle.rights_text.specs.Texts.{ShowText, ChangeText};
 
 use call_rights::{change, show};
-use printing::put_bytes;
+use check_text::put_answered;
 use spans::SHEET_WORDS;
-use text::{put_head, put_trees};
+use text::put_sheet;
 
 // The answer on a rule sheet and a token sheet, and its trees as the user may see them; its length.
 pub fn show_text(rules: &[u8], tokens: &[u8], rights: &[u8], user: u32, out: &mut [u8]) -> usize
@@ -21,9 +21,7 @@ pub fn show_text(rules: &[u8], tokens: &[u8], rights: &[u8], user: u32, out: &mu
     let mut two = [0u8; 16384];
     let u = user as usize;
     let r = show(rules, tokens, rights, u, &mut words, &mut one, &mut two);
-    let a = r.answer;
-    let n = put_head(out, a, r.line);
-    put_trees(out, n, a, &one, r.first, &two, r.second)
+    put_answered(out, r, &one, &two)
 }
 
 // The rule sheet with another mark in one of its rules, if the user may change that; its length.
@@ -43,8 +41,5 @@ pub fn change_text(
     let u = user as usize;
     let p = rule as usize;
     let r = change(rules, rights, u, p, lay, &mut sheet);
-    let a = r.answer;
-    let m = r.count;
-    let n = put_head(out, a, r.line);
-    put_bytes(out, n, &sheet[..m])
+    put_sheet(out, r, &sheet)
 }

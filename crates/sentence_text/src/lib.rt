@@ -3,12 +3,12 @@
 
 ghost use Rattle.std.specs.Prelude.{◌+◌, ◌*◌, ◌≤◌, length};
 ghost use Rattle.printing.specs.Printing.{Wrote, token_text_of, token_lines};
+ghost use Rattle.sheets.specs.declared.Answer.TheVariants as Answer;
 ghost use Rattle.text.specs.Output.{sentence_text};
 ghost use Rattle.grammar.specs.Sentences.{spelled};
 
 use grammar::{Sentence, Token};
 use printing::{put_bytes, put_ended};
-use sheets::Answer;
 
 // A token line.
 fn put_token(out: &mut [u8], at: usize, t: Token) -> usize
@@ -28,32 +28,20 @@ fn put_tokens(out: &mut [u8], at: usize, s: Sentence) -> usize
     ensures wrote { Wrote out.old out.new at (token_lines (spelled s)) result }
     ensures upper_bound { result ≤ at + 18 * s.count }
 {
-    let mut i = 0;
     let mut next = at;
-    while i < s.count {
-        let t = s.tokens[i];
-        next = put_token(out, next, t);
-        i += 1;
+    for t in &s.tokens[..s.count] {
+        next = put_token(out, next, *t);
     }
     next
 }
 
-// The token sheet of a found sentence, where there is one.
-pub fn put_sentence(out: &mut [u8], at: usize, a: Answer, s: Sentence) -> usize
+// The token sheet of a found sentence.
+pub fn put_sentence(out: &mut [u8], at: usize, s: Sentence) -> usize
     requires count_bound { s.count ≤ 64 }
     requires count_in_bounds { at + 14 + 18 * s.count ≤ length out.old }
-    ensures { Wrote out.old out.new at (sentence_text a (spelled s))
+    ensures { Wrote out.old out.new at (sentence_text Answer.Two (spelled s))
         result }
 {
-    match a {
-        Answer::None => at,
-        Answer::One => at,
-        Answer::Two => {
-            let next = put_bytes(out, at, b"term line col\n");
-            put_tokens(out, next, s)
-        }
-        Answer::Clear => at,
-        Answer::Given => at,
-        Answer::Refused(_) => at,
-    }
+    let next = put_bytes(out, at, b"term line col\n");
+    put_tokens(out, next, s)
 }

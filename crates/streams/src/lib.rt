@@ -2,13 +2,15 @@
 // taken for the end.
 #![tactic(auto)]
 
-ghost use Rattle.std.specs.Prelude.{◌<◌, length, take, IfOk, OnOk, OnErr};
+ghost use Rattle.std.specs.Prelude.{ℕ, ◌<◌, ◌≤◌, length, take, IfOk, OnOk, OnErr};
 ghost use Rattle.std.specs.Io.KnownBytes.{Appends, Consumes, IsAtEnd, ReadConsumes, WriteAppends};
 ghost use Rattle.streams.specs.AtMostMoved.{AtMostMoved};
 ghost use Rattle.streams.specs.SomeMoved.{SomeRead, SomeWritten};
 
 use std::io;
 use std::io::{ErrorKind, Input, Read, Write};
+use std::process::ExitCode;
+use text::OUTPUT;
 
 // One read, made again while a signal interrupts it before it moves a byte; no run uses the turns
 // up.
@@ -18,12 +20,8 @@ fn read_once<R: Read>(from: &mut R, buf: &mut [u8]) -> io::Result<usize>
 {
     for _ in 0..u64::MAX {
         match from.read(buf) {
-            Ok(n) => return Ok(n),
-            Err(e) => {
-                if e.kind() != ErrorKind::Interrupted {
-                    return Err(e);
-                }
-            }
+            Err(e) if e.kind() == ErrorKind::Interrupted => {}
+            read => return read,
         }
     }
     Err(io::Error::from(ErrorKind::Interrupted))
@@ -56,12 +54,8 @@ fn write_once<W: Write>(to: &mut W, buf: &[u8]) -> io::Result<usize>
 {
     for _ in 0..u64::MAX {
         match to.write(buf) {
-            Ok(n) => return Ok(n),
-            Err(e) => {
-                if e.kind() != ErrorKind::Interrupted {
-                    return Err(e);
-                }
-            }
+            Err(e) if e.kind() == ErrorKind::Interrupted => {}
+            written => return written,
         }
     }
     Err(io::Error::from(ErrorKind::Interrupted))
@@ -102,4 +96,26 @@ pub fn write_output<R: Print + Eprint>(rt: &R, buf: &[u8]) -> io::Result<()> {
         let _ = eprintln!(rt; "standard output: {e}");
     }
     written
+}
+
+// A whole program: reads standard input, one byte more than `answer` takes at most, and writes what
+// it puts at the front of the output. Where a read fails it writes nothing, where a write fails
+// nothing more, and says so on standard error and ends with status 1.
+pub fn run<R, F>(rt: &R, answer: F) -> ExitCode
+where
+    R: Input + Print + Eprint,
+    F: FnOnce(&[u8], &mut [u8; OUTPUT]) -> usize,
+    requires callable { F.IsAlwaysCallable answer }
+    requires inside { (s : _) (o : _) (r : ℕ) (p : _) → F.post answer s o r p → r ≤ length p.now }
+{
+    let mut space = [0u8; 16385];
+    let Ok(n) = read_input(rt, &mut space) else {
+        return ExitCode::FAILURE;
+    };
+    let mut out = [0u8; OUTPUT];
+    let r = answer(&space[..n], &mut out);
+    match write_output(rt, &out[..r]) {
+        Ok(()) => ExitCode::SUCCESS,
+        Err(_) => ExitCode::FAILURE,
+    }
 }

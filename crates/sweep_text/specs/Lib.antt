@@ -1,3 +1,4 @@
+pub mod Answered
 pub mod Bound
 pub mod Sweep
 pub mod Swept

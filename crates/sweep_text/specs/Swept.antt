@@ -1,6 +1,6 @@
 -- What stands in the lent output after a sweep (for inner functions).
 use Rattle.std.specs.Prelude.{◌≡◌, List, ℕ}
-use Rattle.std.proofs.Math.Option.{none, some}
+use Rattle.std.specs.Prelude.{None, Some}
 use Rattle.printing.specs.Printing.{Wrote}
 use Rattle.sheets.specs.RuleSheets.{rule_sheet}
 use Rattle.sweep_text.specs.Bound.{bound_of}
@@ -10,7 +10,7 @@ use Rattle.text.specs.Printed.{Printed}
 
 -- the bound is not so written, or the answer was put
 pub data SweptAt (before behind out out' : List ℕ) (r : ℕ) : Type 0 where
-  unbound : bound_of before ≡ none → Wrote out out' 0 (head (refused_text_of 32) 0) r
+  unbound : bound_of before ≡ None → Wrote out out' 0 (head (refused_text_of 32) 0) r
       → SweptAt before behind out out' r
-  bound : {k : ℕ} → bound_of before ≡ some k → Printed (SweepText k) (rule_sheet behind) out out' r
+  bound : {k : ℕ} → bound_of before ≡ Some k → Printed (SweepText k) (rule_sheet behind) out out' r
       → SweptAt before behind out out' r

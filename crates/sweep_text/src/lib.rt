@@ -1,36 +1,56 @@
 // The whole output of the program `sweep`.
 #![tactic(auto)]
 
-ghost use Rattle.std.specs.Prelude.{◌≡◌, ◌+◌, ◌≤◌, ◌<◌, length, take, drop};
-ghost use Rattle.fields.specs.Answers.{as_number};
+ghost use Rattle.std.specs.Prelude.{◌≡◌, ◌+◌, ◌*◌, ◌≤◌, ◌<◌, length, take, drop};
+ghost use Rattle.printing.specs.Printing.{Wrote};
 ghost use Rattle.sheets.specs.RuleSheets.{rule_sheet};
+ghost use Rattle.sweep_answers.specs.Sweep.{sweep_sentence};
 ghost use Rattle.text.specs.Printed.{Printed};
+ghost use Rattle.sweep_text.specs.Answered.{swept_text};
 ghost use Rattle.sweep_text.specs.Bound.{bound_of};
 ghost use Rattle.sweep_text.specs.Sweep.{SweepText, SweepTextOf};
 ghost use Rattle.sweep_text.specs.Swept.{SweptAt};
 
-use fields::{Number, numeral, same};
+use fields::numeral;
 use sentence_text::put_sentence;
-use sheets::read_rules;
-use sweep_answers::sweep_read;
-use text::{OUTPUT, Place, parting, put_head, put_refusal};
+use sheets::{Answer, Refusal, read_rules};
+use sweep_answers::{Swept, sweep_read};
+use text::{OUTPUT, parting, put_head, put_refusal};
 
 // The bound that stands before the empty line, or none.
-fn bound_of(s: &[u8]) -> Number
-    ensures { result ≡ as_number (bound_of s.now) }
+fn bound_of(s: &[u8]) -> Option<u32>
+    ensures { result ≡ bound_of s.now }
 {
     let n = s.len();
     if n < 7 {
-        return Number::Not;
+        return None;
     }
-    if !same(&s[..6], b"bound\n") {
-        return Number::Not;
+    if &s[..6] != b"bound\n".as_slice() {
+        return None;
     }
     let end = n - 1;
     if s[end] != 10 {
-        return Number::Not;
+        return None;
     }
     numeral(&s[6..end])
+}
+
+// The whole output of a sweep.
+pub fn put_swept(out: &mut [u8], r: Result<Swept, Refusal>) -> usize
+    requires few { (sweep_sentence r).count ≤ 64 }
+    requires in_bounds { 64 + 18 * (sweep_sentence r).count ≤ length out.old }
+    ensures { Wrote out.old out.new 0 (swept_text r) result }
+{
+    match r {
+        Ok(s) => match s.found {
+            None => put_head(out, Answer::Clear, 0),
+            Some(w) => {
+                let n = put_head(out, Answer::Two, 0);
+                put_sentence(out, n, w)
+            }
+        },
+        Err(e) => put_head(out, Answer::Refused(e.fault), e.line),
+    }
 }
 
 // The answer on a rule sheet and a bound.
@@ -41,10 +61,7 @@ fn sweep_sheet(rules: &[u8], k: u32, out: &mut [u8]) -> usize
 {
     let mut words = [0u64; 58];
     let r = sweep_read(read_rules(rules), k as usize, &mut words);
-    let a = r.answer;
-    let s = r.sentence;
-    let n = put_head(out, a, r.line);
-    put_sentence(out, n, a, s)
+    put_swept(out, r)
 }
 
 // The answer on what the empty line at i parts: the bound, then the rule sheet.
@@ -55,10 +72,9 @@ fn sweep_at(input: &[u8], i: usize, out: &mut [u8]) -> usize
         out.old out.new result }
 {
     let j = i + 1;
-    let bound = bound_of(&input[..i]);
-    match bound {
-        Number::Not => put_refusal(out, 32),
-        Number::Is(k) => sweep_sheet(&input[j..], k, out),
+    match bound_of(&input[..i]) {
+        None => put_refusal(out, 32),
+        Some(k) => sweep_sheet(&input[j..], k, out),
     }
 }
 
@@ -70,9 +86,8 @@ pub fn sweep_text(input: &[u8], out: &mut [u8; OUTPUT]) -> usize
     if 16384 < input.len() {
         return put_refusal(out, 31);
     }
-    let place = parting(input);
-    match place {
-        Place::Nowhere => put_refusal(out, 32),
-        Place::At(i) => sweep_at(input, i, out),
+    match parting(input) {
+        None => put_refusal(out, 32),
+        Some(i) => sweep_at(input, i, out),
     }
 }

@@ -4,19 +4,9 @@
 #![tactic(auto)]
 
 use std::process::ExitCode;
-use streams::{read_input, write_output};
+use streams::run;
 use sweep_text::sweep_text;
-use text::OUTPUT;
 
 fn main(rt: HostRuntime) -> ExitCode {
-    let mut space = [0u8; 16385];
-    let Ok(n) = read_input(&rt, &mut space) else {
-        return ExitCode::FAILURE;
-    };
-    let mut out = [0u8; OUTPUT];
-    let r = sweep_text(&space[..n], &mut out);
-    match write_output(&rt, &out[..r]) {
-        Ok(()) => ExitCode::SUCCESS,
-        Err(_) => ExitCode::FAILURE,
-    }
+    run(&rt, sweep_text)
 }

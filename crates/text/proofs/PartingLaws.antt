@@ -6,7 +6,7 @@ use mathlib.Core.Option.{Option, none, some}
 use Prim.Native.Nat.{ℕ, suc, ◌+◌, ◌≤◌, ◌<◌}
 use native.Mathlib.Numerals.{add-one}
 use native.Mathlib.Omega.{arith}
-use borrow.Author.Tests.{eq-eqb, ne_eqb}
+use borrow.Author.Tests.{eq-eqb}
 use lib.Dec.{eqb}
 use lib.ListN.{length, take, drop, get_or}
 use lib.Seq.{take-suc, drop-cons, drop-length}
@@ -43,14 +43,11 @@ pub seeking_start : (s : List ℕ) → Seeking s true 0
 unfolding onto_all
 seeking_start s = record { low = omega arith; same = refl }
 
-and_false : (b : Bool) → b && false ≡ false
-and_false true = refl
-and_false false = refl
-
 -- the byte at i is no empty line
-step : (s : List ℕ) (begins : Bool) (i : ℕ) → i < length s → begins && eqb (get_or s i 0) 10 ≡ false
+pub seeking_next : (s : List ℕ) (begins : Bool) (i : ℕ) → i < length s
+    → begins && eqb (get_or s i 0) 10 ≡ false
     → Seeking s begins i → Seeking s (eqb (get_or s i 0) 10) (i + 1)
-step s begins i h e k =
+seeking_next s begins i h e k =
     record {
       low = omega arith;
       same =
@@ -63,16 +60,6 @@ step s begins i h e k =
           (parts_from (eqb (get_or s i 0) 10) (drop (suc i) s)))
           ∙ rw (add-one i, take-suc s i 0 h);
     }
-
-pub seeking_other : (s : List ℕ) (begins : Bool) (i : ℕ) → i < length s → (get_or s i 0 ≡ 10 → ⊥)
-    → Seeking s begins i → Seeking s false (i + 1)
-seeking_other s begins i h n k =
-    let e : eqb (get_or s i 0) 10 ≡ false = ne_eqb (get_or s i 0) 10 n in
-    rw e at (step s begins i h (rw e (and_false begins)) k)
-
-pub seeking_line : (s : List ℕ) (i : ℕ) → i < length s → get_or s i 0 ≡ 10 → Seeking s false i
-    → Seeking s true (i + 1)
-seeking_line s i h n k = rw (eq-eqb (get_or s i 0) 10 n) at (step s false i h refl k)
 
 pub seeking_found : (s : List ℕ) (i : ℕ) → i < length s → get_or s i 0 ≡ 10 → Seeking s true i
     → parts s ≡ some (record { before = take i s; behind = drop (i + 1) s })

@@ -1,3 +1,4 @@
+pub mod Given
 pub mod Input
 pub mod Output
 pub mod Parting

@@ -1,12 +1,10 @@
 -- What the search for the first empty line finds.
-use Rattle.std.specs.Prelude.{◌≡◌, List, ℕ, ◌+◌, ◌<◌, length, take, drop}
+use Rattle.std.specs.Prelude.{◌≡◌, List, ℕ, ◌+◌, ◌<◌, length, take, drop, Option, Some, None}
 use Rattle.std.proofs.Math.Option.{none, some}
-use Rattle.text.specs.declared.Place.{Place}
-use Rattle.text.specs.declared.Place.TheVariants.{At, Nowhere}
 use Rattle.text.specs.Input.{parts}
 
 -- the place of its byte 10, or that there is none
-abbrev pub Parted : List ℕ → Place → Type 0
-Parted s (At i) =
+abbrev pub Parted : List ℕ → Option ℕ → Type 0
+Parted s (Some i) =
     (i < length s) × (parts s ≡ some (record { before = take i s; behind = drop (i + 1) s }))
-Parted s Nowhere = parts s ≡ none
+Parted s None = parts s ≡ none

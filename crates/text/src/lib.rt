@@ -4,42 +4,31 @@
 
 ghost use Rattle.std.specs.Prelude.{◌∷◌, ◌++◌, ◌+◌, ◌*◌, ◌≤◌, ◌<◌, length, take};
 ghost use Rattle.printing.specs.Printing.{Wrote, last_field, row_lines};
+ghost use Rattle.sheets.specs.Results.{verdict_answer};
+ghost use Rattle.text.specs.Given.{given_count, given_text};
 ghost use Rattle.text.specs.Output.{refused_text_of, answer_text, head, tree_names, trees_text};
 ghost use Rattle.text.specs.Parting.{Parted};
 
+use grammar::Verdict;
 use printing::{put_byte, put_bytes, put_number, put_rows};
-use sheets::{Answer, fault_number};
+use sheets::{Answer, Refusal};
 
 // The bytes that any answer has room in.
 pub const OUTPUT: usize = 262144;
 
-// A place in the input, or none.
-#[derive(Clone, Copy)]
-pub enum Place {
-    At(usize),
-    Nowhere,
-}
-
 // The place of the first empty line.
-pub fn parting(s: &[u8]) -> Place
+pub fn parting(s: &[u8]) -> Option<usize>
     ensures { Parted s.now result }
 {
     let mut begins = true;
-    let mut i = 0;
-    while i < s.len() {
-        let b = s[i];
-        if b == 10 {
-            if begins {
-                return Place::At(i);
-            }
-            begins = true;
-            i += 1;
-            continue;
+    for (i, b) in s.iter().enumerate() {
+        let ends = *b == b'\n';
+        if begins && ends {
+            return Some(i);
         }
-        begins = false;
-        i += 1;
+        begins = ends;
     }
-    Place::Nowhere
+    None
 }
 
 // `refused-` and a number of at most two digits.
@@ -65,7 +54,7 @@ fn put_answer(out: &mut [u8], at: usize, a: Answer) -> usize
         Answer::Two => put_bytes(out, at, b"two"),
         Answer::Clear => put_bytes(out, at, b"clear"),
         Answer::Given => put_bytes(out, at, b"given"),
-        Answer::Refused(f) => put_refused(out, at, fault_number(f)),
+        Answer::Refused(f) => put_refused(out, at, f.into()),
     }
 }
 
@@ -120,7 +109,7 @@ fn put_first(out: &mut [u8], at: usize, one: &[u8], m: usize) -> usize
 pub fn put_trees(
     out: &mut [u8],
     at: usize,
-    a: Answer,
+    v: Verdict,
     one: &[u8],
     m: usize,
     two: &[u8],
@@ -129,17 +118,29 @@ pub fn put_trees(
     requires m_in_bounds { (4 * m ≤ length one.now) × (4 * n ≤ length two.now) }
     requires n_in_bounds { at + 28 + 26 * m + 26 * n ≤ length out.old }
     ensures { Wrote out.old out.new at
-        (trees_text a (take (4 * m) one.now) (take (4 * n) two.now)) result }
+        (trees_text (verdict_answer v) (take (4 * m) one.now) (take (4 * n) two.now)) result }
 {
-    match a {
-        Answer::None => at,
-        Answer::One => put_first(out, at, one, m),
-        Answer::Two => {
+    match v {
+        Verdict::None => at,
+        Verdict::One => put_first(out, at, one, m),
+        Verdict::Two => {
             let next = put_first(out, at, one, m);
             put_rows(out, next, 2, two, n)
         }
-        Answer::Clear => at,
-        Answer::Given => at,
-        Answer::Refused(_) => at,
+    }
+}
+
+// The whole output of a call that gives a sheet: its bytes stand at the front of the lent ones.
+pub fn put_sheet(out: &mut [u8], r: Result<usize, Refusal>, sheet: &[u8]) -> usize
+    requires given { given_count r ≤ length sheet.now }
+    requires in_bounds { 50 + given_count r ≤ length out.old }
+    ensures { Wrote out.old out.new 0 (given_text r sheet.now) result }
+{
+    match r {
+        Ok(n) => {
+            let next = put_head(out, Answer::Given, 0);
+            put_bytes(out, next, &sheet[..n])
+        }
+        Err(e) => put_head(out, Answer::Refused(e.fault), e.line),
     }
 }

@@ -9,8 +9,10 @@ use lib.Seq.{take-add, length-take-le, get_or-drop}
 use Rattle.lists.specs.Lists.{bytes_of, GivesList, fits, large}
 use Rattle.lists.proofs.Entries.{bytes_length}
 use Rattle.places.specs.Places.{Entry, entry_bytes}
-use Rattle.call_places.specs.declared.PlacesReply.{PlacesReply}
-use Rattle.call_places.specs.Places.{short, listing, PlacesOf, refusing, reading}
+use Rattle.std.specs.Prelude.{Result}
+use Rattle.sheets.specs.declared.Refusal.{Refusal}
+use Rattle.call_places.specs.declared.ListedPlaces.{ListedPlaces}
+use Rattle.call_places.specs.Places.{short, listing, PlacesOf, refusing, reading, places_count}
 use Rattle.text_trees.specs.Places.{place_text, place_lines}
 
 -- whole entries before others
@@ -50,19 +52,22 @@ lines_more i l h =
 
 -- ---- the number of entries is at most the places lent
 
-counted : {r s : PlacesReply} {m : ℕ} → r ≡ s → 3 * s.count ≤ m → 3 * r.count ≤ m
-counted e h = omega (arith, ap (λ (x : PlacesReply). x.count) e)
+counted : {r s : Result ListedPlaces Refusal} {m : ℕ} → r ≡ s → 3 * places_count s ≤ m
+    → 3 * places_count r ≤ m
+counted e h = omega (arith, ap places_count e)
 
-given_few : {given : ℕ → PlacesReply} {refused : PlacesReply} (es : List Entry)
-    {lent lent' : List ℕ} {r : PlacesReply} → ((n : ℕ) → (given n).count ≡ n) → refused.count ≡ 0
+given_few : {given : ℕ → Result ListedPlaces Refusal} {refused : Result ListedPlaces Refusal}
+    (es : List Entry)
+    {lent lent' : List ℕ} {r : Result ListedPlaces Refusal} → ((n : ℕ) → places_count (given n) ≡ n)
+    → places_count refused ≡ 0
     → GivesList given refused (bytes_of entry_bytes es) (length es) lent lent' r
-    → 3 * r.count ≤ length lent
+    → 3 * places_count r ≤ length lent
 given_few es g n (fits h e p) =
     counted e (omega (arith, g (length es), bytes_length entry_bytes 3 (λ a. refl) es))
 given_few es g n (large h e p) = counted e (omega (arith, n))
 
-pub places_fit : {rules tokens words words' list list' : List ℕ} {r : PlacesReply}
-    → PlacesOf rules tokens words words' list list' r → 3 * r.count ≤ length list
+pub places_fit : {rules tokens words words' list list' : List ℕ} {r : Result ListedPlaces Refusal}
+    → PlacesOf rules tokens words words' list list' r → 3 * places_count r ≤ length list
 places_fit (refusing e x h i) = counted x (omega arith)
 places_fit (reading e (short l n x h i)) = counted x (omega arith)
 places_fit (reading e (listing {es = es} s t n y f)) = given_few es (λ m. refl) refl y

@@ -1,11 +1,13 @@
 -- What the program `calls` writes for `places`: the answer and its line, then, for two, `left start
 -- length` and a line a place.
-use Rattle.std.specs.Prelude.{◌≡◌, List, [], ◌∷◌, ◌++◌, ℕ, ◌*◌, length, take}
+use Rattle.std.specs.Prelude.{◌≡◌, List, [], ◌∷◌, ◌++◌, ℕ, ◌*◌, length, take, Result}
 use Rattle.printing.specs.Printing.{field, last_field}
 use Rattle.sheets.specs.declared.Answer.{Answer}
 use Rattle.text.specs.Output.{answer_text, head}
-use Rattle.call_places.specs.declared.PlacesReply.{PlacesReply}
-use Rattle.call_places.specs.Places.{PlacesOf}
+use Rattle.sheets.specs.declared.Refusal.{Refusal}
+use Rattle.sheets.specs.Results.{told_line}
+use Rattle.call_places.specs.declared.ListedPlaces.{ListedPlaces}
+use Rattle.call_places.specs.Places.{PlacesOf, places_told, places_count}
 
 -- the line of a place: nonterminal, start, length
 unfoldable pub place_text : ℕ → ℕ → ℕ → List ℕ
@@ -35,7 +37,8 @@ places_text (Answer.Refused f) list = []
 
 -- the output for two sheets; it lends words enough for 64 tokens, and 16,384 places
 pub data PlacesTextOf (rules tokens text : List ℕ) : Type 0 where
-  answered : {words words' list list' : List ℕ} {r : PlacesReply} → length words ≡ 4162
+  answered : {words words' list list' : List ℕ} {r : Result ListedPlaces Refusal}
+      → length words ≡ 4162
       → length list ≡ 3 * 16384 → PlacesOf rules tokens words words' list list' r
-      → text ≡ head (answer_text r.answer) r.line ++ places_text r.answer
-      (take (3 * r.count) list') → PlacesTextOf rules tokens text
+      → text ≡ head (answer_text (places_told r)) (told_line r) ++ places_text (places_told r)
+      (take (3 * places_count r) list') → PlacesTextOf rules tokens text

@@ -4,32 +4,33 @@
 
 ghost use Rattle.std.specs.Prelude.{[], ◌∷◌, ◌++◌, ◌+◌, ◌*◌, ◌≤◌, length, take};
 ghost use Rattle.printing.specs.Printing.{decimal, Wrote};
+ghost use Rattle.sheets.specs.Results.{verdict_answer};
 ghost use Rattle.text.specs.Printed.{Printed};
 ghost use Rattle.text_trees.specs.Places.{place_text, place_lines, places_text, PlacesTextOf};
-ghost use Rattle.text_trees.specs.Rows.{count_text, count_lines, rows_text, RowsTextOf};
+ghost use Rattle.text_trees.specs.Rows.{count_text, count_lines, RowsTextOf};
 
 use call_places::places;
 use call_rows::rows;
+use grammar::Verdict;
 use printing::{put_byte, put_bytes, put_number};
-use row_counts::RowCount;
 use sheets::Answer;
 use spans::SHEET_WORDS;
 use text::put_head;
 
 // A row count: a number, or the word `more`.
-fn put_count(out: &mut [u8], at: usize, c: RowCount) -> usize
+fn put_count(out: &mut [u8], at: usize, c: Option<u32>) -> usize
     requires { at + 10 ≤ length out.old }
     ensures wrote { Wrote out.old out.new at (count_text c) result }
     ensures upper_bound { result ≤ at + 10 }
 {
     match c {
-        RowCount::Exact(n) => put_number(out, at, n as u64),
-        RowCount::More => put_bytes(out, at, b"more"),
+        Some(n) => put_number(out, at, n as u64),
+        None => put_bytes(out, at, b"more"),
     }
 }
 
 // The names of the counts, and both counts.
-fn put_counts(out: &mut [u8], at: usize, first: RowCount, second: RowCount) -> usize
+fn put_counts(out: &mut [u8], at: usize, first: Option<u32>, second: Option<u32>) -> usize
     requires { at + 35 ≤ length out.old }
     ensures { Wrote out.old out.new at (count_lines first second) result }
 {
@@ -40,21 +41,6 @@ fn put_counts(out: &mut [u8], at: usize, first: RowCount, second: RowCount) -> u
     put_byte(out, d, b'\n')
 }
 
-// The counts, where the answer has them.
-fn put_counted(out: &mut [u8], at: usize, a: Answer, first: RowCount, second: RowCount) -> usize
-    requires { at + 35 ≤ length out.old }
-    ensures { Wrote out.old out.new at (rows_text a first second) result }
-{
-    match a {
-        Answer::None => put_counts(out, at, first, second),
-        Answer::One => put_counts(out, at, first, second),
-        Answer::Two => put_counts(out, at, first, second),
-        Answer::Clear => at,
-        Answer::Given => at,
-        Answer::Refused(_) => at,
-    }
-}
-
 // The whole output of the call `rows`; its length.
 pub fn rows_text(rules: &[u8], tokens: &[u8], out: &mut [u8]) -> usize
     requires { 262144 ≤ length out.old }
@@ -62,12 +48,13 @@ pub fn rows_text(rules: &[u8], tokens: &[u8], out: &mut [u8]) -> usize
         out.old out.new result }
 {
     let mut words = [0u64; SHEET_WORDS];
-    let r = rows(rules, tokens, &mut words);
-    let a = r.answer;
-    let first = r.first;
-    let second = r.second;
-    let n = put_head(out, a, r.line);
-    put_counted(out, n, a, first, second)
+    match rows(rules, tokens, &mut words) {
+        Ok(r) => {
+            let n = put_head(out, r.verdict.into(), 0);
+            put_counts(out, n, r.first, r.second)
+        }
+        Err(e) => put_head(out, Answer::Refused(e.fault), e.line),
+    }
 }
 
 // A byte as a number, and the byte `end` behind it.
@@ -98,33 +85,28 @@ fn put_places(out: &mut [u8], at: usize, list: &[u8], count: usize) -> usize
     ensures { Wrote out.old out.new at
         (place_lines (take (3 * count) list.now)) result }
 {
-    let mut i = 0;
     let mut next = at;
-    while i < count {
+    for i in 0..count {
         let p = 3 * i;
         next = put_place(out, next, list[p], list[p + 1], list[p + 2]);
-        i += 1;
     }
     next
 }
 
 // The names and the lines of the places, where the verdict is two.
-fn put_listed(out: &mut [u8], at: usize, a: Answer, list: &[u8], count: usize) -> usize
+fn put_listed(out: &mut [u8], at: usize, v: Verdict, list: &[u8], count: usize) -> usize
     requires count_in_bounds { 3 * count ≤ length list.now }
     requires count_in_bounds_2 { at + 18 + 12 * count ≤ length out.old }
     ensures { Wrote out.old out.new at
-        (places_text a (take (3 * count) list.now)) result }
+        (places_text (verdict_answer v) (take (3 * count) list.now)) result }
 {
-    match a {
-        Answer::None => at,
-        Answer::One => at,
-        Answer::Two => {
+    match v {
+        Verdict::None => at,
+        Verdict::One => at,
+        Verdict::Two => {
             let next = put_bytes(out, at, b"left start length\n");
             put_places(out, next, list, count)
         }
-        Answer::Clear => at,
-        Answer::Given => at,
-        Answer::Refused(_) => at,
     }
 }
 
@@ -136,8 +118,11 @@ pub fn places_text(rules: &[u8], tokens: &[u8], out: &mut [u8]) -> usize
 {
     let mut words = [0u64; SHEET_WORDS];
     let mut list = [0u8; 49152];
-    let r = places(rules, tokens, &mut words, &mut list);
-    let a = r.answer;
-    let n = put_head(out, a, r.line);
-    put_listed(out, n, a, &list, r.count)
+    match places(rules, tokens, &mut words, &mut list) {
+        Ok(r) => {
+            let n = put_head(out, r.verdict.into(), 0);
+            put_listed(out, n, r.verdict, &list, r.count)
+        }
+        Err(e) => put_head(out, Answer::Refused(e.fault), e.line),
+    }
 }

@@ -1,6 +1,10 @@
 -- `always_text` meets its contract: the output by what the rule sheet gives.
+use Rattle.sheets.proofs.Readings.{rules_told, read_told}
 use Rattle.always_text.proofs.always_text.Goals as goal
 
+pub read_text-requires : goal.read_text-requires
+read_text-requires c =
+    record { rules_read = read_told _ _ c.read_rules.ensures; in_bounds = c.requires }
+
 pub returns : goal.returns
-returns c =
-    rw c.read_rules.ensures.is at c.read_text.ensures
+returns c = rw (rules_told _ c.read_rules.ensures) at c.read_text.ensures

@@ -7,7 +7,7 @@ use Rattle.c_words.proofs.code.Goals as goal
 pub overflow_add-result : goal.overflow_add-result
 overflow_add-result c =
     let h = number_small c.in-Refused.f in
-    omega (arith, h, c.fault_number.ensures)
+    omega (arith, h, c.from.ensures)
 
 pub returns-in-None : goal.returns-in-None
 returns-in-None c = record { value = rw c.in-None.is refl; upper_bound = omega arith }
@@ -28,7 +28,7 @@ pub returns-in-Refused : goal.returns-in-Refused
 returns-in-Refused c =
     let h = number_small c.in-Refused.f in
     record {
-      value = rw (c.in-Refused.is, c.fault_number.ensures) refl;
+      value = rw (c.in-Refused.is, c.from.ensures) refl;
       upper_bound =
-          omega (arith, h, c.fault_number.ensures);
+          omega (arith, h, c.from.ensures);
     }

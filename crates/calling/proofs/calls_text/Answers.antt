@@ -6,26 +6,26 @@ use Rattle.calling.proofs.calls_text.Goals as goal
 
 pub answer_at-requires : goal.answer_at-requires
 answer_at-requires c =
-    let s = c.parting-place.ensures in
-    record { i_in_bounds = (rw c.in-At.is at s).0; in_bounds = search rules }
+    let s = c.parting.ensures in
+    record { i_in_bounds = (rw c.in-Some.is at s).0; in_bounds = search rules }
 
-pub returns-in-Nowhere : goal.returns-in-Nowhere
-returns-in-Nowhere c =
-    let s = c.parting-place.ensures in
+pub returns-in-None : goal.returns-in-None
+returns-in-None c =
+    let s = c.parting.ensures in
     record {
       text = _;
-      is = whole (search rules) (rw c.in-Nowhere.is at s) refl;
+      is = whole (search rules) (rw c.in-None.is at s) refl;
       wrote =
-          c.put_refusal-in-Nowhere.ensures;
+          c.put_refusal-in-None.ensures;
     }
 
-pub returns-in-At : goal.returns-in-At
-returns-in-At c =
+pub returns-in-Some : goal.returns-in-Some
+returns-in-Some c =
     let a = c.answer_at.ensures in
-    let s = c.parting-place.ensures in
+    let s = c.parting.ensures in
     record {
       text = a.text;
       is =
-          called (search rules) (rw c.in-At.is at s).1 a.is;
+          called (search rules) (rw c.in-Some.is at s).1 a.is;
       wrote = a.wrote;
     }

@@ -10,37 +10,37 @@ use Rattle.calling.proofs.on_parted.Goals as goal
 
 pub overflow_add-j : goal.overflow_add-j
 overflow_add-j c =
-    let h = (rw c.in-At.is at c.parting-place.ensures).0 in search rules
+    let h = (rw c.in-Some.is at c.parting.ensures).0 in search rules
 
 pub slice_bounds-on_two-end : goal.slice_bounds-on_two-end
 slice_bounds-on_two-end c =
-    let h = (rw c.in-At.is at c.parting-place.ensures).0 in sym (length-take-le _ _ (search rules))
+    let h = (rw c.in-Some.is at c.parting.ensures).0 in sym (length-take-le _ _ (search rules))
 
 pub slice_bounds-on_two-count : goal.slice_bounds-on_two-count
 slice_bounds-on_two-count c =
-    let h = (rw c.in-At.is at c.parting-place.ensures).0 in search rules
+    let h = (rw c.in-Some.is at c.parting.ensures).0 in search rules
 
 pub slice_bounds-on_two-start : goal.slice_bounds-on_two-start
 slice_bounds-on_two-start c =
-    let h = (rw c.in-At.is at c.parting-place.ensures).0 in search rules
+    let h = (rw c.in-Some.is at c.parting.ensures).0 in search rules
 
-pub returns-in-Nowhere : goal.returns-in-Nowhere
-returns-in-Nowhere c =
-    let s = c.parting-place.ensures in
+pub returns-in-None : goal.returns-in-None
+returns-in-None c =
+    let s = c.parting.ensures in
     record {
       text = _;
-      is = fewer (rw c.in-Nowhere.is at s) refl;
+      is = fewer (rw c.in-None.is at s) refl;
       wrote =
           c.put_refusal.ensures;
     }
 
-pub returns-in-At : goal.returns-in-At
-returns-in-At c =
+pub returns-in-Some : goal.returns-in-Some
+returns-in-Some c =
     let a = c.args in
-    let n = c.in-At.i + 1 in
+    let n = c.in-Some.i + 1 in
     let e : take (length a.s.now - n) (drop n a.s.now) ≡ drop n a.s.now =
     take_all (length a.s.now - n) (drop n a.s.now)
     (omega (arith, length-drop n a.s.now)) in
     let w = rw e at c.on_two.ensures in
-    let s = c.parting-place.ensures in record
-    { text = w.text; is = two (rw c.in-At.is at s).1 w.is; wrote = w.wrote }
+    let s = c.parting.ensures in record
+    { text = w.text; is = two (rw c.in-Some.is at s).1 w.is; wrote = w.wrote }

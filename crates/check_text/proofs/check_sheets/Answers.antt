@@ -4,42 +4,27 @@ use mathlib.Core.Path.{refl}
 use Prim.Native.Nat.{ℕ}
 use native.Mathlib.Omega.{arith}
 use lib.ListN.{length-replicate}
-use Rattle.printing.proofs.Writing.{wrote_then}
-use Rattle.check_text.specs.Check.{Lent, answered}
+use Rattle.sheets.proofs.Readings.{rules_told}
 use Rattle.answering.proofs.Fits.{trees_fit}
 use Rattle.answering.proofs.Readings.{trees_by}
+use Rattle.check_text.specs.Check.{Lent, answered}
 use Rattle.check_text.proofs.check_sheets.Goals as goal
 
-pub put_trees-requires : goal.put_trees-requires
-put_trees-requires c =
+pub put_answered-requires : goal.put_answered-requires
+put_answered-requires c =
     let f = trees_fit c.trees_read-r.ensures in
-    let one = length-replicate {A = ℕ} 16384 0 in record {
-      m_in_bounds = (
-        omega (arith, f.first, one, c.trees_read-r.auto.first),
-        omega
-            (arith, f.second, one, c.trees_read-r.auto.second),
-      );
-      n_in_bounds = omega (
-        arith,
-        f.first,
-        f.second,
-        one,
-        c.put_head-n.ensures.upper_bound,
-        c.put_head-n.ensures.wrote.long,
-        c.requires,
-      );
+    let one = length-replicate {A = ℕ} 16384 0 in
+    record {
+      first = omega (arith, f.first, one, c.trees_read-r.auto.first);
+      second = omega (arith, f.second, one, c.trees_read-r.auto.second);
+      in_bounds = omega (arith, f.first, f.second, one, c.requires);
     }
 
 pub returns : goal.returns
 returns c =
     let one = length-replicate {A = ℕ} 16384 0 in
-    let by = trees_by c.read_rules.ensures.is c.args.tokens.now
+    let by = trees_by (rules_told _ c.read_rules.ensures) c.args.tokens.now
     c.trees_read-r.ensures in
     let lent : Lent _ _ _ =
     record { enough = length-replicate {A = ℕ} 4162 0; first = one; second = one } in
-    record {
-      text = _;
-      is = answered lent by refl;
-      wrote =
-          wrote_then c.put_head-n.ensures.wrote c.put_trees.ensures;
-    }
+    record { text = _; is = answered lent by refl; wrote = c.put_answered.ensures }

@@ -10,24 +10,24 @@ returns-then-input-gt16384 c =
 
 pub check_at-requires : goal.check_at-requires
 check_at-requires c =
-    let s = c.parting-place.ensures in
-    record { i_in_bounds = (rw c.in-At.is at s).0; in_bounds = search rules }
+    let s = c.parting.ensures in
+    record { i_in_bounds = (rw c.in-Some.is at s).0; in_bounds = search rules }
 
-pub returns-in-Nowhere : goal.returns-in-Nowhere
-returns-in-Nowhere c =
-    let s = c.parting-place.ensures in
+pub returns-in-None : goal.returns-in-None
+returns-in-None c =
+    let s = c.parting.ensures in
     record {
       text = _;
-      is = whole (search rules) (rw c.in-Nowhere.is at s) refl;
-      wrote = c.put_refusal-in-Nowhere.ensures;
+      is = whole (search rules) (rw c.in-None.is at s) refl;
+      wrote = c.put_refusal-in-None.ensures;
     }
 
-pub returns-in-At : goal.returns-in-At
-returns-in-At c =
+pub returns-in-Some : goal.returns-in-Some
+returns-in-Some c =
     let a = c.check_at.ensures in
-    let s = c.parting-place.ensures in
+    let s = c.parting.ensures in
     record {
       text = a.text;
-      is = checked (search rules) (rw c.in-At.is at s).1 a.is;
+      is = checked (search rules) (rw c.in-Some.is at s).1 a.is;
       wrote = a.wrote;
     }

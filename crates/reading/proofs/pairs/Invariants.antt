@@ -1,9 +1,6 @@
--- Each turn but the last moves on in the input.
-use Rattle.std.proofs.Common.{length, ◌-◌, ◌≤◌}
+-- Each turn takes a pair off the front.
+use Rattle.std.proofs.Common.{length}
 use Rattle.reading.proofs.pairs.Given as goal
 
-abbrev pub invariant-loop-at : goal.invariant-loop-at
-invariant-loop-at g l = l.at ≤ length l.s
-
-abbrev pub decreases-loop-at : goal.decreases-loop-at
-decreases-loop-at g l = length l.s - l.at
+abbrev pub decreases-loop-p : goal.decreases-loop-p
+decreases-loop-p g l = length l.rest

@@ -12,10 +12,10 @@ returns-in_default c =
 
 pub ends_with-requires : goal.ends_with-requires
 ends_with-requires c =
-    let pair : PairTo c.args.s.now c.args.at c.in-At.a = rw c.in-At.is at c.pair_end.ensures in
+    let pair : PairTo c.args.s.now c.args.at c.in-Some.a = rw c.in-Some.is at c.pair_end.ensures in
     pair.inside
 
 pub returns : goal.returns
 returns c =
-    let pair : PairTo c.args.s.now c.args.at c.in-At.a = rw c.in-At.is at c.pair_end.ensures in
+    let pair : PairTo c.args.s.now c.args.at c.in-Some.a = rw c.in-Some.is at c.pair_end.ensures in
     let a = c.args in clear_says a.s.now a.at pair c.ends_with.ensures

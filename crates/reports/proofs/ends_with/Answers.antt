@@ -5,4 +5,4 @@ use Rattle.reports.proofs.ends_with.Goals as goal
 pub returns : goal.returns
 returns c =
     let a = c.args in
-    same_whole a.s.now a.at a.bytes.now c.same.result c.same.ensures
+    same_whole a.s.now a.at a.bytes.now c.eq.result c.eq.ensures

@@ -1,49 +1,28 @@
--- `reports::token_count` meets its contract: the lines before i are token lines, and each way out
--- settles how many there are in all.
+-- `reports::token_count` meets its contract: each way out settles how many token lines there are in
+-- all.
+use mathlib.Core.Logic.{inr}
 use native.Mathlib.Omega.{arith}
-use Rattle.reports.specs.Rests.{TokenTo, NoToken}
-use Rattle.reports.proofs.Counting.{counted_none, counted_more, many, unread}
-use Rattle.reports.proofs.Counting.{all_read}
+use Rattle.reports.proofs.Counting.{counted_more, many, unread, all_read}
+use borrow.Author.Rules.{rules}
 use Rattle.reports.proofs.token_count.Goals as goal
 
-pub loop-i-init : goal.loop-i-init
-loop-i-init c = let a = c.args in counted_none a.s.now a.at c.requires
+pub returns-in_err-end : goal.returns-in_err-end
+returns-in_err-end c =
+    let l = c.loop-n.invariant in
+    rw c.from_residual.ensures (unread _ _ l.0 l.1 c.in_err-end.ensures)
 
-pub returns-then-n-eq7 : goal.returns-then-n-eq7
-returns-then-n-eq7 c =
-    let a = c.args in
-    many a.s.now a.at c.loop-i.invariant c.loop-i-test.true c.if-n-eq7.true
+pub returns-then-end-s : goal.returns-then-end-s
+returns-then-end-s c =
+    all_read _ _ (counted_more _ _ c.loop-n.invariant.0 (search rules) c.in_ok-end.ensures)
+    (omega arith) c.if-end-s.true
 
-pub token_end-requires : goal.token_end-requires
-token_end-requires c = c.loop-i.invariant.inside
-
-pub returns-in_default : goal.returns-in_default
-returns-in_default c =
-    let a = c.args in
-    let e = c.token_end.ensures in
-    let t : NoToken a.s.now c.loop-i.i = rw c.in_default.is at e in
-    unread a.s.now a.at c.loop-i.invariant c.loop-i-test.true
-    t
-
-pub overflow_add-n : goal.overflow_add-n
-overflow_add-n c = omega (arith, c.loop-i.invariant.few)
-
-pub loop-i-smaller : goal.loop-i-smaller
-loop-i-smaller c = omega (
-  arith,
-  c.loop-i.invariant.few,
-  c.if-n-eq7.false,
-)
-
-pub loop-i-preserved : goal.loop-i-preserved
-loop-i-preserved c =
-    let a = c.args in
-    let e = c.token_end.ensures in
-    let t : TokenTo a.s.now c.loop-i.i c.in-At.next =
-    rw c.in-At.is at e in
-    counted_more a.s.now a.at c.loop-i.invariant c.if-n-eq7.false t
+pub loop-n-preserved : goal.loop-n-preserved
+loop-n-preserved c =
+    let t = c.in_ok-end.ensures in (
+      counted_more _ _ c.loop-n.invariant.0 (search rules) t,
+      inr (omega (arith, t.inside, c.if-end-s.false)),
+    )
 
 pub returns : goal.returns
 returns c =
-    let a = c.args in
-    all_read a.s.now a.at c.loop-i.invariant c.loop-i-test.false
+    let l = c.loop-n.invariant in many _ _ l.0 (search rules) l.1

@@ -3,30 +3,19 @@ use mathlib.Core.Path.{refl}
 use Prim.Native.Nat.{ℕ}
 use native.Mathlib.Omega.{arith}
 use lib.ListN.{length-replicate}
-use Rattle.printing.proofs.Writing.{wrote_then}
 use Rattle.check_text.specs.Check.{Lent}
 use Rattle.rights_text.specs.Texts.{shown}
 use Rattle.rights_text.proofs.Fits.{show_fit}
 use Rattle.rights_text.proofs.show_text.Goals as goal
 
-pub put_trees-requires : goal.put_trees-requires
-put_trees-requires c =
+pub put_answered-requires : goal.put_answered-requires
+put_answered-requires c =
     let f = show_fit c.show-r.ensures in
-    let one = length-replicate {A = ℕ} 16384 0 in record {
-      m_in_bounds = (
-        omega (arith, f.first, one, c.show-r.auto.first),
-        omega
-            (arith, f.second, one, c.show-r.auto.second),
-      );
-      n_in_bounds = omega (
-        arith,
-        f.first,
-        f.second,
-        one,
-        c.put_head-n.ensures.upper_bound,
-        c.put_head-n.ensures.wrote.long,
-        c.requires,
-      );
+    let one = length-replicate {A = ℕ} 16384 0 in
+    record {
+      first = omega (arith, f.first, one, c.show-r.auto.first);
+      second = omega (arith, f.second, one, c.show-r.auto.second);
+      in_bounds = omega (arith, f.first, f.second, one, c.requires);
     }
 
 pub returns : goal.returns
@@ -34,9 +23,4 @@ returns c =
     let one = length-replicate {A = ℕ} 16384 0 in
     let lent : Lent _ _ _ =
     record { enough = length-replicate {A = ℕ} 4162 0; first = one; second = one } in
-    record {
-      text = _;
-      is = shown lent c.show-r.ensures refl;
-      wrote =
-          wrote_then c.put_head-n.ensures.wrote c.put_trees.ensures;
-    }
+    record { text = _; is = shown lent c.show-r.ensures refl; wrote = c.put_answered.ensures }

@@ -2,39 +2,29 @@
 use mathlib.Core.Path.{refl}
 use Prim.Native.Nat.{ℕ}
 use lib.ListN.{length-replicate}
-use native.Mathlib.Omega.{arith}
-use Rattle.printing.proofs.Writing.{wrote_then}
+use Rattle.printing.proofs.Writing.{wrote_none, wrote_then}
 use Rattle.share_text.specs.Shares.{answered}
 use Rattle.share_text.proofs.Fits.{share_few}
 use Rattle.share_text.proofs.share_text.Goals as goal
 
-pub put_shared-m-requires : goal.put_shared-m-requires
-put_shared-m-requires c = omega (
-  arith,
-  c.put_head-n.ensures.upper_bound,
-  c.put_head-n.ensures.wrote.long,
-  c.requires,
-)
+pub put_report-requires : goal.put_report-requires
+put_report-requires c =
+    record { few = share_few (rw c.in-Ok.is at c.share.ensures); in_bounds = c.requires }
 
-pub put_sentence-requires : goal.put_sentence-requires
-put_sentence-requires c =
-    let f = share_few c.share-r.ensures in record {
-      count_bound = omega arith;
-      count_in_bounds = omega (
-        arith,
-        c.put_head-n.ensures.upper_bound,
-        c.put_head-n.ensures.wrote.long,
-        c.put_shared-m.ensures.upper_bound,
-        c.put_shared-m.ensures.wrote.long,
-        c.requires,
-      );
+pub returns-in-Ok : goal.returns-in-Ok
+returns-in-Ok c =
+    let by = rw c.in-Ok.is at c.share.ensures in
+    record {
+      text = _;
+      is = answered (length-replicate {A = ℕ} 58 0) by refl;
+      wrote = c.put_report.ensures;
     }
 
-pub returns : goal.returns
-returns c = record {
-  text = _;
-  is = answered (length-replicate {A = ℕ} 58 0)
-      c.share-r.ensures refl;
-  wrote = wrote_then
-      (wrote_then c.put_head-n.ensures.wrote c.put_shared-m.ensures.wrote) c.put_sentence.ensures;
-}
+pub returns-in-Err : goal.returns-in-Err
+returns-in-Err c =
+    let by = rw c.in-Err.is at c.share.ensures in
+    record {
+      text = _;
+      is = answered (length-replicate {A = ℕ} 58 0) by refl;
+      wrote = wrote_then (wrote_then c.put_head.ensures.wrote (wrote_none _ _)) (wrote_none _ _);
+    }

@@ -6,7 +6,7 @@ use Rattle.text.proofs.put_answer.Goals as goal
 
 pub put_refused-requires : goal.put_refused-requires
 put_refused-requires c =
-    let e = c.fault_number.ensures in
+    let e = c.into.ensures in
     record { n_bound = rw e (number_small c.in-Refused.f); at_in_bounds = search rules }
 
 pub returns-in-None : goal.returns-in-None
@@ -46,5 +46,5 @@ returns-in-Given c = record {
 
 pub returns-in-Refused : goal.returns-in-Refused
 returns-in-Refused c =
-    let w = rw c.fault_number.ensures at c.put_refused.ensures.wrote in
+    let w = rw c.into.ensures at c.put_refused.ensures.wrote in
     record { wrote = rw c.in-Refused.is w; upper_bound = c.put_refused.ensures.upper_bound }

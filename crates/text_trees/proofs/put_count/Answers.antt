@@ -8,25 +8,25 @@ pub put_number-requires : goal.put_number-requires
 put_number-requires c =
     omega (
       arith,
-      decimal_length 10 c.in-Exact.n (omega arith)
+      decimal_length 10 c.in-Some.n (omega arith)
           (search rules),
       c.requires,
     )
 
-pub returns-in-Exact : goal.returns-in-Exact
-returns-in-Exact c = record {
-  wrote = rw c.in-Exact.is c.put_number.ensures;
+pub returns-in-Some : goal.returns-in-Some
+returns-in-Some c = record {
+  wrote = rw c.in-Some.is c.put_number.ensures;
   upper_bound = omega (
     arith,
     c.put_number.ensures.next,
-    decimal_length 10 c.in-Exact.n (omega arith)
+    decimal_length 10 c.in-Some.n (omega arith)
         (search rules),
   );
 }
 
-pub returns-in-More : goal.returns-in-More
-returns-in-More c = record {
-  wrote = rw c.in-More.is c.put_bytes.ensures;
+pub returns-in-None : goal.returns-in-None
+returns-in-None c = record {
+  wrote = rw c.in-None.is c.put_bytes.ensures;
   upper_bound = omega
       (arith, c.put_bytes.ensures.next);
 }

