@@ -12,14 +12,14 @@ pub struct Line(pub u16);
 #[derive(Clone, Copy, PartialEq, Eq, PartialOrd, Ord)]
 pub struct Column(pub u16);
 
-// Does line `a` come before line `b`?
+// Does line `a` come before line `b`? Lines are compared by this function alone.
 pub fn line_before(a: Line, b: Line) -> bool
     ensures { Says result (a.0 < b.0) }
 {
     a < b
 }
 
-// Does column `c` come before column `d`?
+// Does column `c` come before column `d`? Columns are compared by this function alone.
 pub fn column_before(c: Column, d: Column) -> bool
     ensures { Says result (c.0 < d.0) }
 {

@@ -45,7 +45,13 @@ fn with_column(v: Option<Column>, c: Column) -> Option<Column>
 {
     match v {
         None => Some(c),
-        Some(d) => Some(d.min(c)),
+        Some(d) => {
+            if column_before(c, d) {
+                Some(c)
+            } else {
+                Some(d)
+            }
+        }
     }
 }
 
@@ -81,13 +87,20 @@ pub fn offalign(c: Column, v: Option<Column>) -> bool
     }
 }
 
+// Are the columns the same?
+fn same_column(a: Column, b: Column) -> bool
+    ensures { Says result (a.0 ≡ b.0) }
+{
+    !column_before(a, b) && !column_before(b, a)
+}
+
 // Does the mark hold of a word from `a` to `z` and a word from `b` on?
 pub fn pairs(m: BinaryMark, a: Token, z: Token, b: Token) -> bool
     ensures { Says result (Pairs m a z b) }
 {
     match m {
         BinaryMark::None => true,
-        BinaryMark::Align => a.column == b.column,
+        BinaryMark::Align => same_column(a.column, b.column),
         BinaryMark::Indent => column_before(a.column, b.column) && line_before(z.line, b.line),
     }
 }
@@ -96,7 +109,7 @@ pub fn pairs(m: BinaryMark, a: Token, z: Token, b: Token) -> bool
 fn still(yes: bool, a: Token, t: Token) -> bool
     ensures { Says result ((yes ≡ true) × Keeps Unary.Single a t) }
 {
-    yes && t.line == a.line
+    yes && !line_before(a.line, t.line) && !line_before(t.line, a.line)
 }
 
 // The set, with `l` besides if `yes` says so.
