@@ -20,7 +20,7 @@ ghost use Rattle.sheets.specs.LinesIn.{LineIn, held_of};
 ghost use Rattle.sheets.specs.Names.{Behind};
 ghost use Rattle.sheets.specs.Results.{verdict_answer};
 ghost use Rattle.sheets.specs.Promises.{as_item, as_step, Adds, RulesRead, TokensRead};
-ghost use Rattle.fields.specs.Cursors.{pieces_from, bytes_left};
+ghost use Rattle.fields.specs.Cursors.{line_at, pieces_from, bytes_left};
 
 use fields::Cursor;
 use grammar::{Column, Line, Rule, Sentence, Token, Verdict, Width, leaves_free, line_before};
@@ -280,17 +280,25 @@ fn rules_from(s: &[u8], start: usize) -> Result<Book, Refusal>
     }
 }
 
-// Where the lines behind the names begin, if the first line is these names.
-pub fn behind_names(s: &[u8], names: &[u8]) -> Option<usize>
+// Where the lines behind the first line, c, begin, if it is these names.
+fn behind_line(s: &[u8], c: Cursor, names: &[u8]) -> Option<usize>
+    requires { c ≡ line_at s.now 0 }
     ensures { Behind s.now names.now result }
 {
-    let end = Cursor::line(s, 0).end;
+    let end = c.end;
     if end < s.len() {
         if &s[..end] == names {
             return Some(end + 1);
         }
     }
     None
+}
+
+// Where the lines behind the names begin, if the first line is these names.
+pub fn behind_names(s: &[u8], names: &[u8]) -> Option<usize>
+    ensures { Behind s.now names.now result }
+{
+    behind_line(s, Cursor::line(s, 0), names)
 }
 
 // The rule sheet: its rules with their index, or the first refusal in their order with its line.
@@ -404,10 +412,11 @@ fn tokens_from(s: &[u8], start: usize, wide: bool) -> Result<Sentence, Refusal>
 pub fn read_tokens(s: &[u8]) -> Result<Sentence, Refusal>
     ensures { TokensRead result (token_sheet s.now) }
 {
-    if let Some(at) = behind_names(s, b"term line col") {
+    let c = Cursor::line(s, 0);
+    if let Some(at) = behind_line(s, c, b"term line col") {
         return tokens_from(s, at, false);
     }
-    if let Some(at) = behind_names(s, b"term line col width") {
+    if let Some(at) = behind_line(s, c, b"term line col width") {
         return tokens_from(s, at, true);
     }
     Err(Refusal {
