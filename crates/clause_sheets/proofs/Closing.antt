@@ -14,7 +14,7 @@ use Rattle.grammar.specs.declared.Grammar.{Grammar}
 use Rattle.grammar.specs.Trees.{Rules}
 use Rattle.grammar.specs.Content.{Formed, SmallRule}
 use Rattle.grammar.specs.Layout.{Every}
-use Rattle.std.specs.Prelude.{Option, None, Some}
+use Rattle.std.specs.Prelude.{Option, None, Some, Err}
 use Rattle.fields.specs.Words.{numeral_of}
 use Rattle.grammar.specs.Content.{rules_of}
 use Rattle.fields.specs.Pieces.{is_empty, before}
@@ -25,7 +25,9 @@ use Rattle.clauses.proofs.Apart.{expansion_distinct}
 use Rattle.rule_output.specs.Emitting.{Emit, Adds, Cause}
 use Rattle.clause_lines.specs.ClauseLines.{ClauseLine, Said, good, unwritten, deep, expression}
 use Rattle.clause_lines.specs.ClauseLines.{with_left, left_says, clause_line}
+use Rattle.sheets.specs.declared.Fault.{Fault}
 use Rattle.sheets.specs.Items.{accepted, refused, next, stop, end, items_from}
+use Rattle.sheets.specs.Promises.{RulesRead}
 use Rattle.sheets.specs.RuleSheets.{finish}
 use Rattle.sheets.proofs.Accepted.{items_hold}
 use Rattle.clause_sheets.specs.ClauseSheets.{clause_said, clause_step, clauses_of, expansion_fits}
@@ -267,3 +269,7 @@ module _ {ps : List (List ℕ)} {p : ℕ} {first out : Emit} (w : Walked ps p fi
 
 pub past_far : (ps : List (List ℕ)) (p : ℕ) → AllSaid ps p → 64 < p → clauses_from ps ≡ refused 43 0
 past_far ps p W h = let z = W.most in past_many ps p W (omega arith)
+
+pub far_read : (ps : List (List ℕ)) (p : ℕ) → AllSaid ps p → 64 < p
+    → RulesRead (Err (record { fault = Fault.ClauseMany; line = 0 })) (clauses_from ps)
+far_read ps p W h = record { is = past_far ps p W h }

@@ -154,6 +154,7 @@ fn sorted(words: &[u64; 128], n: usize) -> Grammar
 }
 
 // The end of a clause sheet whose lines are so written: 43, then 7.
+#[tactic(auto, using(crate::proofs::Closing::far_read))]
 fn expand_from(s: &[u8], start: usize, past: usize) -> Result<Book, Refusal>
     requires start_in_bounds { start ≤ length s.now }
     requires all_said { AllSaid (pieces_from 10 s.now start) past }

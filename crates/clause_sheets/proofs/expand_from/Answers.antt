@@ -9,7 +9,7 @@ use Rattle.rule_words.specs.Words.{word_rule}
 use Rattle.rule_output.specs.Emitting.{Emit, held}
 use Rattle.sheets.specs.Promises.{RulesRead}
 use Rattle.clause_sheets.proofs.Closing.{Walked, out_over, out_few, out_long}
-use Rattle.clause_sheets.proofs.Closing.{out_formed, out_end, past_far}
+use Rattle.clause_sheets.proofs.Closing.{out_formed, out_end}
 use Rattle.clause_sheets.specs.Ends.{AllSaid}
 use Rattle.clause_sheets.specs.Checks.{LinesEmitted}
 use Rattle.clause_sheets.proofs.expand_from.Goals as goal
@@ -29,10 +29,6 @@ walked ps past q a h e =
       );
       emitted = e;
     }
-
-pub returns-then-past-gt64 : goal.returns-then-past-gt64
-returns-then-past-gt64 c =
-    record { is = past_far _ _ c.requires.all_said (omega arith) }
 
 pub returns-then-out : goal.returns-then-out
 returns-then-out c = record {
