@@ -23,8 +23,9 @@ pub fn put_answered(out: &mut [u8], r: Result<TreeRows, Refusal>, one: &[u8], tw
 {
     match r {
         Ok(t) => {
-            let n = put_head(out, t.verdict.into(), 0);
-            put_trees(out, n, t.verdict, one, t.first, two, t.second)
+            let a = t.verdict.into();
+            let n = put_head(out, a, 0);
+            put_trees(out, n, a, one, t.first, two, t.second)
         }
         Err(e) => put_head(out, Answer::Refused(e.fault), e.line),
     }

@@ -4,12 +4,10 @@
 
 ghost use Rattle.std.specs.Prelude.{◌∷◌, ◌++◌, ◌+◌, ◌*◌, ◌≤◌, ◌<◌, length, take};
 ghost use Rattle.printing.specs.Printing.{Wrote, last_field, row_lines};
-ghost use Rattle.sheets.specs.Results.{verdict_answer};
 ghost use Rattle.text.specs.Given.{given_count, given_text};
 ghost use Rattle.text.specs.Output.{refused_text_of, answer_text, head, tree_names, trees_text};
 ghost use Rattle.text.specs.Parting.{Parted};
 
-use grammar::Verdict;
 use printing::{put_byte, put_bytes, put_number, put_rows};
 use sheets::{Answer, Refusal};
 
@@ -109,7 +107,7 @@ fn put_first(out: &mut [u8], at: usize, one: &[u8], m: usize) -> usize
 pub fn put_trees(
     out: &mut [u8],
     at: usize,
-    v: Verdict,
+    a: Answer,
     one: &[u8],
     m: usize,
     two: &[u8],
@@ -118,15 +116,18 @@ pub fn put_trees(
     requires m_in_bounds { (4 * m ≤ length one.now) × (4 * n ≤ length two.now) }
     requires n_in_bounds { at + 28 + 26 * m + 26 * n ≤ length out.old }
     ensures { Wrote out.old out.new at
-        (trees_text (verdict_answer v) (take (4 * m) one.now) (take (4 * n) two.now)) result }
+        (trees_text a (take (4 * m) one.now) (take (4 * n) two.now)) result }
 {
-    match v {
-        Verdict::None => at,
-        Verdict::One => put_first(out, at, one, m),
-        Verdict::Two => {
+    match a {
+        Answer::None => at,
+        Answer::One => put_first(out, at, one, m),
+        Answer::Two => {
             let next = put_first(out, at, one, m);
             put_rows(out, next, 2, two, n)
         }
+        Answer::Clear => at,
+        Answer::Given => at,
+        Answer::Refused(_) => at,
     }
 }
 

@@ -19,7 +19,8 @@ put_trees-requires c =
 pub returns-in-Ok : goal.returns-in-Ok
 returns-in-Ok c =
     rw c.in-Ok.is
-    (wrote_then (rw c.into.ensures at c.put_head-n.ensures.wrote) c.put_trees.ensures)
+    (wrote_then (rw c.into-a.ensures at c.put_head-n.ensures.wrote)
+    (rw c.into-a.ensures at c.put_trees.ensures))
 
 pub returns-in-Err : goal.returns-in-Err
 returns-in-Err c =

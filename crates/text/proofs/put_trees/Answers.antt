@@ -1,4 +1,4 @@
--- `text::put_trees` meets its contract: in each arm the verdict is known.
+-- `text::put_trees` meets its contract: in each arm the answer is known.
 use mathlib.Core.List.{append_assoc}
 use Rattle.printing.proofs.Writing.{wrote_none, wrote_then}
 use Rattle.text.specs.Output.{tree_names}
@@ -15,3 +15,12 @@ pub returns-in-Two : goal.returns-in-Two
 returns-in-Two c =
     rw (c.in-Two.is, ← append_assoc tree_names)
     (wrote_then c.put_first-next.ensures.wrote c.put_rows.ensures.wrote)
+
+pub returns-in-Clear : goal.returns-in-Clear
+returns-in-Clear c = rw c.in-Clear.is (wrote_none _ _)
+
+pub returns-in-Given : goal.returns-in-Given
+returns-in-Given c = rw c.in-Given.is (wrote_none _ _)
+
+pub returns-in-Refused : goal.returns-in-Refused
+returns-in-Refused c = rw c.in-Refused.is (wrote_none _ _)
