@@ -3,12 +3,12 @@
 
 ghost use Rattle.std.specs.Prelude.{◌+◌, ◌*◌, ◌≤◌, length};
 ghost use Rattle.printing.specs.Printing.{Wrote, token_text_of, token_lines};
-ghost use Rattle.sheets.specs.declared.Answer.TheVariants as Answer;
 ghost use Rattle.text.specs.Output.{sentence_text};
 ghost use Rattle.grammar.specs.Sentences.{spelled};
 
 use grammar::{Sentence, Token};
 use printing::{put_bytes, put_ended};
+use sheets::Answer;
 
 // A token line.
 fn put_token(out: &mut [u8], at: usize, t: Token) -> usize
@@ -35,13 +35,22 @@ fn put_tokens(out: &mut [u8], at: usize, s: Sentence) -> usize
     next
 }
 
-// The token sheet of a found sentence.
-pub fn put_sentence(out: &mut [u8], at: usize, s: Sentence) -> usize
+// The token sheet of a found sentence, where there is one.
+pub fn put_sentence(out: &mut [u8], at: usize, a: Answer, s: Sentence) -> usize
     requires count_bound { s.count ≤ 64 }
     requires count_in_bounds { at + 14 + 18 * s.count ≤ length out.old }
-    ensures { Wrote out.old out.new at (sentence_text Answer.Two (spelled s))
+    ensures { Wrote out.old out.new at (sentence_text a (spelled s))
         result }
 {
-    let next = put_bytes(out, at, b"term line col\n");
-    put_tokens(out, next, s)
+    match a {
+        Answer::None => at,
+        Answer::One => at,
+        Answer::Two => {
+            let next = put_bytes(out, at, b"term line col\n");
+            put_tokens(out, next, s)
+        }
+        Answer::Clear => at,
+        Answer::Given => at,
+        Answer::Refused(_) => at,
+    }
 }

@@ -69,7 +69,7 @@ fn put_report(out: &mut [u8], r: Report) -> usize
         Some(s) => {
             let n = put_head(out, Answer::Two, 0);
             let m = put_values(out, n, r.quotient, r.remainder, Some(r.number));
-            put_sentence(out, m, s)
+            put_sentence(out, m, Answer::Two, s)
         }
     }
 }

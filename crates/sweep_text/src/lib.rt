@@ -46,7 +46,7 @@ pub fn put_swept(out: &mut [u8], r: Result<Swept, Refusal>) -> usize
             None => put_head(out, Answer::Clear, 0),
             Some(w) => {
                 let n = put_head(out, Answer::Two, 0);
-                put_sentence(out, n, w)
+                put_sentence(out, n, Answer::Two, w)
             }
         },
         Err(e) => put_head(out, Answer::Refused(e.fault), e.line),
