@@ -115,7 +115,10 @@ fn always_word(r: Result<Told, Refusal>, count: &mut [u64]) -> u64
         Ok(Told::Unknown(n)) => put_one(count, n),
         _ => put_one(count, 0),
     }
-    pack_told(r)
+    match r {
+        Ok(t) => pack_told(Ok(t), 0),
+        Err(e) => pack_told(Err(e.fault), e.line),
+    }
 }
 
 // The verdict: its code times 2^32 plus the line's number. The words get the span sheet.

@@ -5,7 +5,7 @@ ghost use Rattle.std.specs.Prelude.{◌≡◌, [], ◌∷◌, ◌+◌, ◌≤◌
 ghost use Rattle.grammar.specs.Layout.{line as line_of, col};
 ghost use Rattle.printing.specs.Printing.{Wrote};
 ghost use Rattle.sheets.specs.declared.Answer.TheVariants as Answer;
-ghost use Rattle.c_words.specs.Codes.{code_of, with_line_of, packed, told_packed};
+ghost use Rattle.c_words.specs.Codes.{code_of, with_line_of, packed, test_packed};
 ghost use Rattle.c_words.specs.Words.{token_words, sentence_words, found_words, AtFront};
 ghost use Rattle.c_words.specs.Words.{count_word, count_words, share_words};
 ghost use Rattle.c_words.specs.Words.{flag_words};
@@ -13,7 +13,7 @@ ghost use Rattle.c_words.specs.Words.{flag_words};
 use call_always::Told;
 use column_search::Flags;
 use grammar::{Sentence, Token};
-use sheets::{Answer, Refusal};
+use sheets::{Answer, Fault, Refusal};
 
 // The code of an answer.
 fn code(a: Answer) -> u64
@@ -57,13 +57,13 @@ pub fn pack_refusal(e: Refusal) -> u64
 }
 
 // What the test at every length tells and its line as one number.
-pub fn pack_told(r: Result<Told, Refusal>) -> u64
-    ensures { result ≡ told_packed r }
+pub fn pack_told(t: Result<Told, Fault>, line: usize) -> u64
+    ensures { result ≡ test_packed t line }
 {
-    match r {
-        Ok(Told::Clear) => with_line(3, 0),
-        Ok(Told::Unknown(_)) => with_line(5, 0),
-        Err(e) => pack_refusal(e),
+    match t {
+        Ok(Told::Clear) => with_line(3, line),
+        Ok(Told::Unknown(_)) => with_line(5, line),
+        Err(f) => pack(Answer::Refused(f), line),
     }
 }
 
