@@ -6,6 +6,7 @@ ghost use Rattle.std.specs.Prelude.{◌≡◌, [], ◌∷◌};
 ghost use Rattle.c_words.specs.Codes.{packed, told_packed};
 ghost use Rattle.c_words.specs.Words.{AtFront, count_words, found_words};
 ghost use Rattle.sheets.specs.Results.{told_line};
+ghost use Rattle.sheets.specs.declared.Answer.TheVariants as Answer;
 ghost use Rattle.answering.specs.Results.{verdict_told, trees_told, first_rows, second_rows};
 ghost use Rattle.sweep_answers.specs.Sweep.{sweep_told, sweep_sentence, sweep_tried};
 ghost use Rattle.list_answers.specs.Lists.{list_told, entry_count};
@@ -89,6 +90,15 @@ fn sweep_word(r: Result<Swept, Refusal>, found: &mut [u64]) -> u64
     }
 }
 
+// The refusal of a call that hands over a count, as a number; `count` gets 0.
+fn refused_word(e: Refusal, count: &mut [u64]) -> u64
+    ensures word { result ≡ packed (Answer.Refused e.fault) e.line }
+    ensures entries { AtFront 1 (0 ∷ []) count.old count.new }
+{
+    put_one(count, 0);
+    pack_refusal(e)
+}
+
 // The answer of a call that gives a list as a number; `count` gets its number of entries.
 fn list_word(r: Result<usize, Refusal>, count: &mut [u64]) -> u64
     ensures word { result ≡ packed (list_told r) (told_line r) }
@@ -99,10 +109,7 @@ fn list_word(r: Result<usize, Refusal>, count: &mut [u64]) -> u64
             put_one(count, n);
             pack(Answer::Given, 0)
         }
-        Err(e) => {
-            put_one(count, 0);
-            pack_refusal(e)
-        }
+        Err(e) => refused_word(e, count),
     }
 }
 
@@ -202,10 +209,7 @@ pub fn teplonga_places(
             put_one(count, r.count);
             pack(r.verdict.into(), 0)
         }
-        Err(e) => {
-            put_one(count, 0);
-            pack_refusal(e)
-        }
+        Err(e) => refused_word(e, count),
     }
 }
 

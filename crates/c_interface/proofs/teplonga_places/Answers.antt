@@ -16,6 +16,6 @@ returns-in-Err c =
     record {
       reply = Err c.in-Err.e;
       promise = rw c.in-Err.is at c.places.ensures;
-      entries = c.put_one-in-Err.ensures;
-      word = c.pack_refusal.ensures;
+      entries = c.refused_word.ensures.entries;
+      word = c.refused_word.ensures.word;
     }
