@@ -10,22 +10,17 @@ use lib.Dec.{ltb, eqb}
 use lib.ListN.{length}
 use Rattle.std.specs.Prelude.{Some}
 use Rattle.std.proofs.Common.{Less, Equal, Greater}
-use Rattle.std.specs.Ordering.{is_lt, is_some_and, partial_lt, partial_ordering_then}
+use Rattle.std.specs.Ordering.{is_lt, is_some_and, partial_ordering_then}
 use Rattle.sets.proofs.Basics.{clash}
 use Rattle.call_shares.specs.Share.{ShareResult}
 use Rattle.call_shares.specs.Merge.{Leads, Ahead, first_refuses, second_refuses, second, first}
-use Rattle.reports.specs.contracts.ToldPartialOrd.TheImpl as Order
 use Rattle.reports.specs.declared.Told.{Told}
 use Rattle.reports.specs.declared.Told.TheVariants as Told
 use Rattle.reports.specs.Reports.{MergeText, merging, ReportOf}
-use Rattle.reports.specs.Rests.{Found, TellsOf}
+use Rattle.reports.specs.Rests.{Found, TellsOf, less}
 use Rattle.reports.proofs.Sizes.{report_short}
 
--- the order of what reports tell
-abbrev pub less : Told → Told → Bool
-less = partial_lt Order.partial_cmp-value.it
-
--- the same by the tests of two pairs of numbers
+-- the order of two found sentences by the tests of two pairs of numbers
 abbrev below : Bool → Bool → Bool → Bool → Bool
 below p q r u = is_some_and is_lt (partial_ordering_then (Some (cond p Less (cond q Equal Greater)))
     (Some (cond r Less (cond u Equal Greater))))

@@ -1,5 +1,7 @@
 -- For the contracts of inner functions only. What the readers of reports tell.
 use Rattle.std.specs.Prelude.{◌≡◌, List, [], ◌∷◌, ◌++◌, ℕ, ◌≤◌, length, drop, Option, Some, None}
+use Rattle.std.specs.Prelude.{Bool}
+use Rattle.std.specs.Ordering.{partial_lt}
 use Rattle.grammar.specs.declared.Token.{Token}
 use Rattle.grammar.specs.Layout.{Word, Every}
 use Rattle.printing.specs.Printing.{decimal, token_text_of, token_lines}
@@ -9,6 +11,7 @@ use Rattle.sheets.specs.TokenSheets.{token_names}
 use Rattle.sweep_answers.specs.Sweep.{sweep_limit}
 use Rattle.call_shares.specs.Share.{ShareResult, share_sentence, share_number}
 use Rattle.call_shares.specs.Merge.{Refuses}
+use Rattle.reports.specs.contracts.ToldPartialOrd.TheImpl as Order
 use Rattle.reports.specs.declared.Told.{Told}
 use Rattle.reports.specs.Reports.{ReportToken, ReportOf}
 
@@ -116,3 +119,8 @@ TellsOf text None = (r : ShareResult) → ReportOf text r → ⊥
 TellsOf text (Some Told.Refused) = Refused text
 TellsOf text (Some (Told.Found n N)) = (1 ≤ n) × Found text n N
 TellsOf text (Some Told.Clear) = Found text 0 0
+
+-- the order of what reports tell: refusals, then sentences by their numbers of tokens and their own
+-- numbers, then clear
+abbrev pub less : Told → Told → Bool
+less = partial_lt Order.partial_cmp-value.it

@@ -6,7 +6,7 @@ ghost use Rattle.sets.specs.Says.{Says};
 ghost use Rattle.text.specs.Printed.{Printed};
 ghost use Rattle.reports.specs.Reports.{MergeText};
 ghost use Rattle.reports.specs.Rests.{TokenAt, Lines, PairAt, ClearRest, TwoTold, OfFault};
-ghost use Rattle.reports.specs.Rests.{RefusedRest, TellsOf};
+ghost use Rattle.reports.specs.Rests.{RefusedRest, TellsOf, less};
 
 use printing::put_bytes;
 use scanning::{number_at, starts_at};
@@ -15,7 +15,7 @@ use text::put_refusal;
 // What a report tells: a refusal; a sentence, by its number of tokens and its own number; or that
 // none was found. Of two reports the least is the merged one.
 #[derive(Clone, Copy, PartialEq, Eq, PartialOrd, Ord)]
-enum Told {
+pub enum Told {
     Refused,
     Found(usize, u64),
     Clear,
@@ -133,6 +133,13 @@ fn report(s: &[u8]) -> Option<Told>
     None
 }
 
+// Does a report that tells the one go before a report that tells the other?
+fn leads(a: Told, b: Told) -> bool
+    ensures { result ≡ less a b }
+{
+    a < b
+}
+
 // The whole output of the call `merge` on two reports; its length.
 pub fn merge_text(one: &[u8], two: &[u8], out: &mut [u8]) -> usize
     requires { 262144 ≤ length out.old }
@@ -142,6 +149,6 @@ pub fn merge_text(one: &[u8], two: &[u8], out: &mut [u8]) -> usize
     let (Some(a), Some(b)) = (report(one), report(two)) else {
         return put_refusal(out, 32);
     };
-    let merged = if b < a { two } else { one };
+    let merged = if leads(b, a) { two } else { one };
     put_bytes(out, 0, merged)
 }

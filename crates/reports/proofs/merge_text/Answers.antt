@@ -3,30 +3,30 @@ use native.Mathlib.Omega.{arith}
 use mathlib.Core.Path.{sym, ◌∙◌}
 use Rattle.reports.proofs.Merging.{take_one, take_two, told_short}
 use Rattle.reports.proofs.merge_text.Goals as goal
-use Rattle.reports.proofs.merge_text.Goals.{then-lt, else-lt}
+use Rattle.reports.proofs.merge_text.Goals.{then-leads, else-leads}
 
 pub put_bytes-requires : goal.put_bytes-requires
 put_bytes-requires c =
     let s = c.in-Some-Some in
-    elim c.if-lt.branch [
-      | then-lt w ↦ rw w.merged-is
+    elim c.if-leads.branch [
+      | then-leads w ↦ rw w.merged-is
           (omega (arith, told_short c.args.two.now s.b s.ensures', c.requires))
-      | else-lt w ↦ rw w.merged-is
+      | else-leads w ↦ rw w.merged-is
           (omega (arith, told_short c.args.one.now s.a s.ensures, c.requires))
     ]
 
 pub returns : goal.returns
 returns c =
     let s = c.in-Some-Some in
-    elim c.if-lt.branch [
-      | then-lt w ↦ record {
+    elim c.if-leads.branch [
+      | then-leads w ↦ record {
         text = c.args.two.now;
-        is = take_two _ _ s.a s.b s.ensures s.ensures' (sym c.lt.ensures ∙ w.if-lt.true);
+        is = take_two _ _ s.a s.b s.ensures s.ensures' (sym c.leads.ensures ∙ w.if-leads.true);
         wrote = rw w.merged-is at c.put_bytes.ensures;
       }
-      | else-lt w ↦ record {
+      | else-leads w ↦ record {
         text = c.args.one.now;
-        is = take_one _ _ s.a s.b s.ensures s.ensures' (sym c.lt.ensures ∙ w.if-lt.false);
+        is = take_one _ _ s.a s.b s.ensures s.ensures' (sym c.leads.ensures ∙ w.if-leads.false);
         wrote = rw w.merged-is at c.put_bytes.ensures;
       }
     ]
