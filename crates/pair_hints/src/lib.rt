@@ -248,10 +248,8 @@ fn offsets(w: u64, places: u64, at: u64) -> u64
     w >> (places >> at) % 64
 }
 
-// May nodes with these words stand by a hint's places: do the words leave offsets for all four
-// starts?
-#[inline(always)]
-pub fn may_stand(w: Words, places: u64) -> bool {
+// Do the words leave offsets for all four starts?
+fn may_stand(w: Words, places: u64) -> bool {
     let starts = offsets(w.yc, places, 0) & offsets(w.xc, places, 12) & offsets(w.cc, places, 24);
     if starts & 15 == 0 {
         return false;
@@ -263,6 +261,22 @@ pub fn may_stand(w: Words, places: u64) -> bool {
         return false;
     }
     offsets(w.dd, places, 42) & 15 != 0
+}
+
+// The first hint from a place on by which nodes with these words may stand; past the end if there
+// is none.
+pub fn next_hint(hints: &[u64; HINTS], w: Words, from: usize, end: usize) -> usize
+    requires { end ≤ 1023 }
+    ensures { from ≤ result }
+{
+    let mut at = from;
+    while at < end {
+        if may_stand(w, hints[at]) {
+            return at;
+        }
+        at += 2;
+    }
+    at
 }
 
 // The offsets left to the two starts.

@@ -253,15 +253,13 @@ fn quick_meet(
 {
     let w = pair_hints::open_words(pair_tables::words_of(words, x, y, i, j));
     let kind = 4 * x.kids + y.kids;
-    let from = pair_hints::hints_from(hints, kind);
     let end = pair_hints::hints_end(hints, kind);
     let mut still = true;
-    for at in (from..end).step_by(2) {
-        if !pair_hints::may_stand(w, hints[at]) {
-            continue;
-        }
+    let mut at = pair_hints::next_hint(hints, w, pair_hints::hints_from(hints, kind), end);
+    while at < end {
         let had = hinted(words, n, x, y, i, j, w, hints[at], hints[at + 1]);
         still &= had;
+        at = pair_hints::next_hint(hints, w, at + 2, end);
     }
     still
 }
