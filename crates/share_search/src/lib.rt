@@ -130,7 +130,7 @@ struct Hit {
 // over a set whose least terminal is low. A candidate's first b cells are looked at: where they
 // rule it out, the search goes on past all that share them, else with a cell more; it ends where
 // the numbers of those that share them are past the end.
-// Kept: beside sweeping::search_length; one loop for both would lend the words to two closures.
+// Kept: beside sweeping::search; one loop for both would lend the words to two closures.
 fn search(
     g: Grammar,
     set: u64,

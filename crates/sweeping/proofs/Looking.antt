@@ -15,7 +15,7 @@ use Rattle.grammar.specs.Candidates.{Candidate, sentence}
 use Rattle.grammar.specs.SpanSheet.{pairs}
 use Rattle.spans.specs.Changes.{Past}
 use Rattle.spans.proofs.Places.{pairs_closed}
-use Rattle.spans.proofs.ChangeLaws.{past_more}
+use Rattle.spans.proofs.ChangeLaws.{past_more, past_then}
 use Rattle.candidates.specs.Terminals.{Among}
 use Rattle.candidates.specs.Succession.{Shares, First, Follows}
 use Rattle.candidates.proofs.Measure.{left, left_falls}
@@ -98,3 +98,9 @@ pairs_mono n k h =
 pub past_longer : {n : ℕ} {ws ws' : List ℕ} (k : ℕ) → n ≤ k → Past (2 * pairs n) ws ws'
     → Past (2 * pairs k) ws ws'
 past_longer {n} k h p = past_more (omega (arith, pairs_mono n k h)) p
+
+-- a length's words: as they are made open, as they were left by the looks before, and by this one
+pub past_turn : {n k : ℕ} {ws ws' xs ys zs : List ℕ} → n ≤ k → Past (2 * pairs k) ws ws'
+    → Past (2 * pairs n) ws' xs → Past (2 * pairs n) xs ys → Past (2 * pairs n) ys zs
+    → Past (2 * pairs k) ws zs
+past_turn {k = k} h p q r s = past_then p (past_longer k h (past_then q (past_then r s)))

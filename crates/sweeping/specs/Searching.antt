@@ -7,7 +7,6 @@ use Rattle.grammar.specs.declared.Cell.{Cell}
 use Rattle.grammar.specs.Layout.{Word}
 use Rattle.grammar.specs.Trees.{Rules, TwoTrees}
 use Rattle.grammar.specs.Candidates.{Candidate, CellsBefore, sentence}
-use Rattle.candidates.specs.declared.Candidate as Array
 use Rattle.candidates.specs.Arrays.{cells}
 use Rattle.candidates.specs.Terminals.{Among}
 use Rattle.candidates.specs.Succession.{Shares}
@@ -55,12 +54,6 @@ pub record Hits (g : Rules) (s k n : ℕ) (cs : List Cell) : Type 0 where
 abbrev pub Searched : Rules → ℕ → ℕ → Option Hit → Type 0
 Searched g s k (Some h) = Hits g s k h.length (cells h.candidate 0 h.length)
 Searched g s k None = NoneShorter g s (k + 1)
-
--- what the search of one length finds: the first candidate that has two trees, or nothing
-abbrev pub SearchedLength : Rules → ℕ → ℕ → Option Array.Candidate → Type 0
-SearchedLength g s n (Some c) =
-    NoneBefore g s n (cells c 0 n) × TwoTrees g 0 (sentence (cells c 0 n))
-SearchedLength g s n None = NoneLong g s n
 
 -- where the search stands: at the candidate cs of n tokens, about to look at its first b cells
 pub record SweepTurn (g : Rules) (s n b : ℕ) (cs : List Cell) : Type 0 where

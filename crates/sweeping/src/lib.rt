@@ -14,7 +14,7 @@ ghost use Rattle.counting.specs.Counts.{HowMany};
 ghost use Rattle.lengths.specs.Lengths.{CanHave};
 ghost use Rattle.lengths.specs.Indexes.{Exact};
 ghost use Rattle.tried_count.specs.Tried.{Tried};
-ghost use Rattle.sweeping.specs.Searching.{Looked, Admits, Searched, SearchedLength};
+ghost use Rattle.sweeping.specs.Searching.{Looked, Admits, Searched};
 ghost use Rattle.sweeping.specs.Swept.{LengthsOf, Bounded, Swept, Found};
 ghost use Rattle.refilling.specs.Kept.{kept_for, Prepared, Mirrored};
 ghost use Rattle.tried_count.specs.Searched.{answer_of};
@@ -62,47 +62,10 @@ fn look(
     refutes(g, set, table, c, n, b, words, cuts)
 }
 
-// The first candidate of n tokens that has two trees, over a set whose least terminal is low. A
-// candidate's first b cells are looked at: where they rule it out, the search goes on past all that
-// share them, else with a cell more.
-fn search_length(
-    g: Grammar,
-    set: u64,
-    table: &[u64],
-    low: u8,
-    n: usize,
-    words: &mut [u64],
-    cuts: &mut [u64],
-) -> Option<Candidate>
-    requires le_n { (1 ≤ n) × (n ≤ 7) }
-    requires lowest { Lowest set low }
-    requires formed { Formed g }
-    requires n_in_bounds { 2 * pairs n ≤ length words.old }
-    requires tabled { Tabled (rules_of g) set table.now }
-    requires n_in_bounds_2 { (kept_for n ≤ length cuts.old) × Prepared (rules_of g) cuts.old }
-    ensures searched { SearchedLength (rules_of g) set n result }
-    ensures past { Past (2 * pairs n) words.old words.new }
-    ensures prepared { Prepared (rules_of g) cuts.new }
-{
-    open_sheet(words, cuts, g, n);
-    let mut c = Candidate::first(set, low, n);
-    let mut b: usize = 0;
-    loop {
-        if look(g, set, table, c, n, b, words, cuts) {
-            let s = c.successor(set, low, n, b)?;
-            c = s.to;
-            b = s.upto;
-            continue;
-        }
-        if b == n {
-            return Some(c);
-        }
-        b += 1;
-    }
-}
-
-// The first candidate of 1 to k tokens that has two trees. Lengths that are not in the set
-// `lengths` are passed over.
+// The first candidate of 1 to k tokens that has two trees, over a set whose least terminal is low.
+// A candidate's first b cells are looked at: where they rule it out, the search goes on past all
+// that share them, else with a cell more. Lengths that are not in the set `lengths` are passed
+// over.
 fn search(
     g: Grammar,
     set: u64,
@@ -123,18 +86,34 @@ fn search(
     ensures searched { Searched (rules_of g) set k result }
     ensures past { Past (2 * pairs k) words.old words.new }
 {
-    for n in 1..=k {
-        if !has(lengths, n as u8) {
-            continue;
+    'search: {
+        for n in 1..=k {
+            if !has(lengths, n as u8) {
+                continue;
+            }
+            open_sheet(words, cuts, g, n);
+            let mut c = Candidate::first(set, low, n);
+            let mut b: usize = 0;
+            loop {
+                if look(g, set, table, c, n, b, words, cuts) {
+                    let Some(s) = c.successor(set, low, n, b) else {
+                        break;
+                    };
+                    c = s.to;
+                    b = s.upto;
+                    continue;
+                }
+                if b == n {
+                    break 'search Some(Hit {
+                        length: n,
+                        candidate: c,
+                    });
+                }
+                b += 1;
+            }
         }
-        if let Some(candidate) = search_length(g, set, table, low, n, words, cuts) {
-            return Some(Hit {
-                length: n,
-                candidate,
-            });
-        }
+        None
     }
-    None
 }
 
 // The same, the pairs of the set's terminals being worked out first.
