@@ -54,7 +54,7 @@ fn front_number(set: u64, c: Candidate, n: usize, b: usize) -> u64
 {
     let mut v: u64 = 0;
     for i in 0..b {
-        let x = cell_number(set, n, i, c.cells[i]);
+        let x = cell_number(set, n, i, c.cell(i));
         v = v * choices_at(set, n, i) + x;
     }
     v

@@ -1,4 +1,4 @@
--- The cells that a candidate holds.
+-- The cells that a candidate's three arrays hold.
 use Rattle.std.specs.Prelude.{List, [], ◌∷◌, ℕ, zero, suc, get_or}
 use Rattle.grammar.specs.declared.Cell.{Cell}
 use Rattle.candidates.specs.declared.Candidate.{Candidate}
@@ -9,7 +9,11 @@ no_cell = record { terminal = 0; step = 0; column = 0 }
 
 -- the cell at i
 abbrev pub cell_at : Candidate → ℕ → Cell
-cell_at c i = get_or c.cells i no_cell
+cell_at c i = record {
+  terminal = get_or c.terminals i 0;
+  step = get_or c.steps i 0;
+  column = get_or c.columns i 0;
+}
 
 -- j cells from i on: a candidate of length n has `cells c 0 n`
 abbrev pub cells : Candidate → ℕ → ℕ → List Cell

@@ -75,10 +75,12 @@ fn advance(set: u64, n: u16, m: u8, p: u16, c: Cell) -> Option<Cell>
     })
 }
 
-// A candidate of at most seven tokens, by their cells.
+// A candidate of at most seven tokens: their terminals, line steps and columns.
 #[derive(Clone, Copy)]
 pub struct Candidate {
-    pub cells: [Cell; 7],
+    pub terminals: [u8; 7],
+    pub steps: [u8; 7],
+    pub columns: [u16; 7],
 }
 
 // The next candidate. Of its cells only those from place `upto` - 1 on may differ from the one
@@ -105,19 +107,33 @@ impl Candidate {
         requires { i ≤ 7 }
         ensures { result ≡ column_before_of self i }
     {
-        if i == 0 { 0 } else { self.cells[i - 1].column }
+        if i == 0 { 0 } else { self.columns[i - 1] }
     }
 
-    // The candidate with the cell c at i.
+    // The cell at i.
+    pub fn cell(self, i: usize) -> Cell
+        requires { i < 7 }
+        ensures { result ≡ cell_at self i }
+    {
+        Cell {
+            terminal: self.terminals[i],
+            step: self.steps[i],
+            column: self.columns[i],
+        }
+    }
+
+    // New arrays, with the cell c at i.
     pub fn with(mut self, i: usize, c: Cell) -> Candidate
         requires { i < 7 }
         ensures { Changed self i c result }
     {
-        self.cells[i] = c;
+        self.terminals[i] = c.terminal;
+        self.steps[i] = c.step;
+        self.columns[i] = c.column;
         self
     }
 
-    // The candidate with the least cell at i.
+    // New arrays, with the least cell at i.
     fn lowered(self, set: u64, low: u8, n: usize, i: usize) -> Candidate
         requires le_n { (1 ≤ n) × (n ≤ 7) × (i < n) }
         requires lowest { Lowest set low }
@@ -136,7 +152,7 @@ impl Candidate {
         )
     }
 
-    // The candidate with the least cells from `from` on.
+    // New arrays, with the least cells from `from` on.
     fn filled(self, set: u64, low: u8, n: usize, from: usize) -> Candidate
         requires le_n { (1 ≤ n) × (n ≤ 7) × (from ≤ n) }
         requires lowest { Lowest set low }
@@ -149,7 +165,7 @@ impl Candidate {
         c
     }
 
-    // The candidate with the next cell at i and the least cells behind it, if there is a next cell.
+    // New arrays, with the next cell at i and the least cells behind it, if there is a next cell.
     fn raised(self, set: u64, low: u8, n: usize, i: usize) -> Option<Stepped>
         requires le_n { (1 ≤ n) × (n ≤ 7) × (i < n) }
         requires lowest { Lowest set low }
@@ -159,7 +175,7 @@ impl Candidate {
     {
         let m = Candidate::largest_step(i);
         let p = self.column_before(i);
-        let d = self.cells[i];
+        let d = self.cell(i);
         let e = advance(set, n as u16, m, p, d)?;
         let c = self.with(i, e);
         let to = c.filled(set, low, n, i + 1);
@@ -172,12 +188,11 @@ impl Candidate {
         requires lowest { Lowest set low }
         ensures { First set n (cells result 0 n) }
     {
-        let none = Cell {
-            terminal: 0,
-            step: 0,
-            column: 0,
+        let c = Candidate {
+            terminals: [0; 7],
+            steps: [0; 7],
+            columns: [0; 7],
         };
-        let c = Candidate { cells: [none; 7] };
         c.filled(set, low, n, 0)
     }
 
@@ -211,7 +226,7 @@ impl Candidate {
         }; N];
         let mut line: u16 = 1;
         for i in 0..n {
-            let d = self.cells[i];
+            let d = self.cell(i);
             line += d.step as u16;
             tokens[i] = Token {
                 terminal: d.terminal,

@@ -17,7 +17,7 @@ fn uses(c: Candidate, b: usize, j: u16) -> bool
     requires { b ≤ 7 }
     ensures { result ≡ used j (cells c 0 b) }
 {
-    c.cells[..b].iter().any(|d| d.column == j)
+    c.columns[..b].iter().any(|k| *k == j)
 }
 
 // How many columns the first b cells leave out right below one of theirs that none of the first h
@@ -45,7 +45,7 @@ pub fn earlier_twin(c: Candidate, n: usize, b: usize, h: usize) -> bool
     requires { (h < b) × (b ≤ n) × (n ≤ 7) }
     ensures { result ≡ true → Slack n b h (cells c 0 n) }
 {
-    if c.cells[b - 1].step == Candidate::LARGEST_STEP {
+    if c.steps[b - 1] == Candidate::LARGEST_STEP {
         return true;
     }
     n - b < lacks(c, n, b, h)
@@ -61,7 +61,7 @@ pub fn passable(set: u64, kept: u64, c: Candidate, n: usize, b: usize, h: usize)
     if b <= h {
         return false;
     }
-    if !has(kept, c.cells[b - 1].terminal) {
+    if !has(kept, c.terminals[b - 1]) {
         return true;
     }
     earlier_twin(c, n, b, h)

@@ -63,7 +63,7 @@ fn moved(c: Candidate, n: usize, i: usize, k: usize) -> Candidate
         Cell {
             step,
             column,
-            ..c.cells[i]
+            ..c.cell(i)
         },
     )
 }
@@ -73,7 +73,7 @@ fn rises(c: Candidate, n: usize, i: usize) -> bool
     requires { (n ≤ 7) × (i < n) }
     ensures { result ≡ false → Rises (cells c 0 n) i → ⊥ }
 {
-    let d = c.cells[i];
+    let d = c.cell(i);
     if d.step == 0 {
         return c.column_before(i) < d.column;
     }
@@ -183,7 +183,7 @@ fn with_terminal(c: Candidate, n: usize, j: usize, x: u8) -> Candidate
         j,
         Cell {
             terminal: x,
-            ..c.cells[j]
+            ..c.cell(j)
         },
     )
 }
@@ -271,11 +271,7 @@ fn slot(c: Candidate, b: usize, n: usize, i: usize) -> usize
     requires { (n ≤ 7) × (i < n) }
     ensures { Slot (cells c 0 n) b i result }
 {
-    if i < b {
-        c.cells[i].terminal as usize
-    } else {
-        64
-    }
+    if i < b { c.terminals[i] as usize } else { 64 }
 }
 
 // Give all tokens and the empty word their first pairs.

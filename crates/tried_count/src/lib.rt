@@ -113,7 +113,7 @@ fn rank(c: Candidate, set: u64, t: u64, n: usize) -> u64
     let mut p: usize = 0;
     for i in 0..n {
         let row = row_of(t, n, n - 1 - i);
-        let d = c.cells[i];
+        let d = c.cell(i);
         total += cell_rank(row, set, n, m, p, d);
         m = 2;
         p = d.column as usize;

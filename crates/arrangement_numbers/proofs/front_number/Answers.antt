@@ -15,12 +15,15 @@ below c = omega (arith, c.well_formed)
 pub loop-i-init : goal.loop-i-init
 loop-i-init c = (omega arith, refl)
 
+pub cell-requires : goal.cell-requires
+cell-requires c = omega (arith, c.requires.few.high, c.requires.b_le_n, c.loop-i-test.true)
+
 pub cell_number-x-requires : goal.cell_number-x-requires
 cell_number-x-requires c = record {
   n_bound = c.requires.few.high;
   ranged = ranged_at c.args.set c.args.n (below c.before.before.before) c.requires.few c.args.c
       c.requires.candidate c.loop-i.i (omega (arith, c.requires.b_le_n, c.loop-i-test.true)) _
-      refl;
+      c.cell.ensures;
 }
 
 pub choices_at-requires : goal.choices_at-requires
@@ -34,7 +37,7 @@ overflow_mul-v c =
           c.args.c
           c.requires.candidate c.loop-i.i _ _ _ _
           (omega (arith, c.requires.b_le_n, c.loop-i-test.true))
-          c.loop-i.invariant.1 c.choices_at.ensures refl
+          c.loop-i.invariant.1 c.choices_at.ensures c.cell.ensures
           c.cell_number-x.ensures,
     )
 
@@ -46,7 +49,7 @@ overflow_add-v c =
           c.args.c
           c.requires.candidate c.loop-i.i _ _ _ _
           (omega (arith, c.requires.b_le_n, c.loop-i-test.true))
-          c.loop-i.invariant.1 c.choices_at.ensures refl
+          c.loop-i.invariant.1 c.choices_at.ensures c.cell.ensures
           c.cell_number-x.ensures,
     )
 
@@ -59,7 +62,7 @@ loop-i-preserved c = (
         arith,
         c.requires.b_le_n,
         c.loop-i-test.true,
-      )) c.loop-i.invariant.1 c.choices_at.ensures refl
+      )) c.loop-i.invariant.1 c.choices_at.ensures c.cell.ensures
       c.cell_number-x.ensures,
 )
 

@@ -8,5 +8,6 @@ use Rattle.equivalents.proofs.uses.Goals as goal
 
 pub returns : goal.returns
 returns c =
-    let k : IsTrue c.any.result ↔ InColumn c.args.j (take c.args.b c.args.c.cells) = search rules in
+    let k : IsTrue c.any.result ↔ InColumn c.args.j (take c.args.b c.args.c.columns) =
+    search rules in
     used_is c.args.c c.args.b c.args.j _ (search rules) k

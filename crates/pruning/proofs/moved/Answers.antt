@@ -1,8 +1,9 @@
 -- One cell is changed, and its step is at most 2.
-use mathlib.Core.Path.{refl}
+use mathlib.Core.Path.{refl, ap}
 use Prim.Native.Nat.{ℕ, ◌*◌, ◌/◌, ◌<◌}
 use native.Mathlib.Omega.{arith}
 use native.Mathlib.Nat.{mod-lt, div-lt_iff_lt-mul}
+use Rattle.grammar.specs.declared.Cell.{Cell}
 use Rattle.pruning.proofs.CellLaws.{moved_of, low_changed}
 use Rattle.pruning.proofs.moved.Goals as goal
 
@@ -46,7 +47,7 @@ returns c =
     let ch = c.with.ensures in
     let l = steps a.n a.k (omega (arith, c.requires.n_bound)) c.requires.n_bound.2 in (
       moved_of a.c c.with.result a.n a.i _ c.requires.n_bound.1 ch a.k
-          refl refl refl,
+          (ap (λ (x : Cell). x.terminal) c.cell.ensures) refl refl,
       low_changed a.c
           c.with.result a.n a.i _ ch (omega (arith, l)) c.requires.low_steps,
     )

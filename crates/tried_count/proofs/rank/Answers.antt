@@ -1,7 +1,5 @@
-use mathlib.Core.Path.{refl}
 use native.Mathlib.Omega.{arith}
 use Rattle.candidates.specs.Terminals.{Among}
-use Rattle.candidates.specs.Arrays.{cell_at}
 use Rattle.candidates.specs.Windows.{Fits}
 use Rattle.tried_count.proofs.Ranking.{ranking_none, ranking_fits, ranking_more}
 use Rattle.tried_count.proofs.Ranking.{ranking_end, cell_small}
@@ -22,16 +20,19 @@ overflow_sub-n-in-loop-i c = omega (arith, c.loop-i-test.true)
 pub row_of-row-requires : goal.row_of-row-requires
 row_of-row-requires c = (c.requires.fair, omega (arith, c.requires.fair.low))
 
+pub cell-d-requires : goal.cell-d-requires
+cell-d-requires c = omega (arith, c.loop-i-test.true, c.requires.fair.high)
+
 -- the cell fits
-fits : (c : Lts.After-row_of Tie.the-claims Reads.Pre Reads.Post goal.the-invariant-loop-i
+fits : (c : Lts.After-cell Tie.the-claims Reads.Pre Reads.Post goal.the-invariant-loop-i
     goal.the-decreases-loop-i Tie.handed_clauses)
-    → Fits (Among c.args.set) c.args.n c.loop-i.m c.loop-i.p (cell_at c.args.c c.loop-i.i)
-fits c = ranking_fits _ _ _ _ _ _ _ _ _ c.loop-i-test.true refl
+    → Fits (Among c.args.set) c.args.n c.loop-i.m c.loop-i.p c.cell-d.result
+fits c = ranking_fits _ _ _ _ _ _ _ _ _ c.loop-i-test.true c.cell-d.ensures
     c.loop-i.invariant
 
 pub cell_rank-total-requires : goal.cell_rank-total-requires
 cell_rank-total-requires c =
-    let f = fits c.before in record {
+    let f = fits c in record {
       n_bound = (c.requires.fair.high, c.loop-i.invariant.steps, c.row_of-row.ensures.low);
       terminal_bound = (
         f.ranged.terminal.0,
@@ -50,9 +51,9 @@ overflow_add-total c =
       c.requires.fair.high,
       c.cell_rank-total.ensures,
       cell_small c.args.n c.loop-i.m c.loop-i.p c.args.set
-          c.row_of-row.result _
+          c.row_of-row.result c.cell-d.result
           c.row_of-row.ensures.low c.requires.fair.high c.loop-i.invariant.steps
-          (fits c.before.before),
+          (fits c.before),
     )
 
 pub loop-i-smaller : goal.loop-i-smaller
@@ -61,7 +62,7 @@ loop-i-smaller c = omega (arith, c.loop-i-test.true)
 pub loop-i-preserved : goal.loop-i-preserved
 loop-i-preserved c =
     ranking_more _ _ _ _ _ _ _ _ _ _ _ c.requires.fair.high
-    c.loop-i-test.true refl c.row_of-row.ensures
+    c.loop-i-test.true c.cell-d.ensures c.row_of-row.ensures
     c.cell_rank-total.ensures c.loop-i.invariant
 
 pub returns : goal.returns
