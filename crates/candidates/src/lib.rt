@@ -76,6 +76,7 @@ fn advance(set: u64, n: u16, m: u8, p: u16, c: Cell) -> Option<Cell>
 }
 
 // A candidate of at most seven tokens: their terminals, line steps and columns.
+// Kept: three arrays by value, a form that docs/DECISIONS.md has ("Forms of the code").
 #[derive(Clone, Copy)]
 pub struct Candidate {
     pub terminals: [u8; 7],

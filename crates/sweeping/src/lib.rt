@@ -66,6 +66,7 @@ fn look(
 // A candidate's first b cells are looked at: where they rule it out, the search goes on past all
 // that share them, else with a cell more. Lengths that are not in the set `lengths` are passed
 // over.
+// Kept: both loops in one function, left by a label, a form that docs/DECISIONS.md has.
 fn search(
     g: Grammar,
     set: u64,
