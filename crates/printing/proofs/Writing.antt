@@ -1,14 +1,12 @@
 -- Bytes put into a buffer one after the other.
 use mathlib.Core.Path.{◌≡◌, refl, sym, ap, ◌∙◌}
 use mathlib.Core.List.{List, [], ◌∷◌, ◌++◌, append-nil, append_assoc}
-use Prim.Native.Nat.{ℕ, ◌+◌, ◌≤◌, ◌<◌}
+use Prim.Native.Nat.{ℕ, ◌+◌, ◌<◌}
 use native.Mathlib.Nat.{add-zero}
 use native.Mathlib.Numerals.{add-one}
 use native.Mathlib.Omega.{arith}
-use lib.ListN.{length, take, drop, set, length-set, length-append, length-take, length-drop}
-use lib.Seq.{take-suc-set, drop-set-lt, drop-drop}
-use borrow.Rule.Slice.PartMut.{put_mid}
-use Rattle.std.proofs.lemmas.Slice.{take-put_mid, drop-put_mid}
+use lib.ListN.{length, take, drop, set, get_or, length-set, length-append}
+use lib.Seq.{take-suc-set, drop-set-lt, take-suc, drop-drop}
 use Rattle.printing.specs.Printing.{Wrote}
 
 pub wrote_none : (l : List ℕ) (at : ℕ) → Wrote l l at [] at
@@ -40,14 +38,11 @@ wrote_then {a} {b} {c} {x} {y} {at} {m} {n} p q =
           ∙ ap (drop (length y)) p.rest ∙ drop-drop (length y) m a));
     }
 
--- bytes put at once into the part between two places
-pub wrote_mid : (l bs new : List ℕ) (at k : ℕ) → at + length bs ≤ length l → k ≡ length bs
-    → new ≡ bs → Wrote l (put_mid at k l new) at bs (at + length bs)
-wrote_mid l bs new at k h e f =
-    rw (f, e)
-    (record {
-      next = refl;
-      long = simp (length-append, length-take, length-drop) (omega arith);
-      front = take-put_mid at (length bs) l bs (at + length bs) refl (omega arith);
-      rest = drop-put_mid at (length bs) l bs (at + length bs) (omega arith) (omega arith) refl;
-    })
+-- a turn of a loop that puts the bytes bs one by one
+pub wrote_turn : (old new bs : List ℕ) (at i : ℕ) → i < length bs → at + i < length new
+    → Wrote old new at (take i bs) (at + i)
+    → Wrote old (set new (at + i) (get_or bs i 0)) at (take (i + 1) bs) (at + (i + 1))
+wrote_turn old new bs at i h l w =
+    let e : at + i + 1 ≡ at + (i + 1) = omega arith in
+    rw (add-one i, take-suc bs i 0 h, ← add-one i, ← e)
+    (wrote_then w (wrote_one new (at + i) (get_or bs i 0) l))

@@ -14,13 +14,15 @@ pub fn put_byte(out: &mut [u8], at: usize, b: u8) -> usize
 }
 
 // Bytes at a place; the place after them.
+// Kept: byte by byte, as `copy_from_slice` would have the archive for C need memmove from outside.
 pub fn put_bytes(out: &mut [u8], at: usize, bytes: &[u8]) -> usize
     requires { at + length bytes.now ≤ length out.old }
     ensures { Wrote out.old out.new at bytes.now result }
 {
-    let next = at + bytes.len();
-    out[at..next].copy_from_slice(bytes);
-    next
+    for i in 0..bytes.len() {
+        out[at + i] = bytes[i];
+    }
+    at + bytes.len()
 }
 
 // A number in base ten without a leading zero.
